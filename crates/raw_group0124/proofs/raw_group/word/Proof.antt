@@ -1,0 +1,94 @@
+-- `word` meets its contract: four bytes, low byte first. Assumes nothing.
+use mathlib.Core.List.{List}
+use Prim.Native.Nat.{ℕ, _+_}
+use native.Mathlib.Omega.{arith}
+use borrow.Author.Needs.{needs}
+use Rattle.packed.proofs.Bytes.{leValue-head, leValue-next}
+use Rattle.raw_group0124.proofs.raw_group.word.Statement.{statement}
+use Rattle.raw_group0124.proofs.raw_group.word.Tie as tie
+
+shared-slice-read-wide : tie.Need-shared-slice-read-wide
+shared-slice-read-wide c = search needs
+
+wide-requires : tie.Need-wide-requires
+wide-requires c κs = search needs
+
+add-wide : tie.Need-add-wide
+add-wide c = search needs
+
+shared-slice-read-wide-2 : tie.Need-shared-slice-read-wide-2
+shared-slice-read-wide-2 c = search needs
+
+wide-requires-2 : tie.Need-wide-requires-2
+wide-requires-2 c κs = search needs
+
+mul-result : tie.Need-mul-result
+mul-result c = search needs
+
+add-result : tie.Need-add-result
+add-result c = search needs
+
+add-wide-2 : tie.Need-add-wide-2
+add-wide-2 c = search needs
+
+shared-slice-read-wide-3 : tie.Need-shared-slice-read-wide-3
+shared-slice-read-wide-3 c = search needs
+
+wide-requires-3 : tie.Need-wide-requires-3
+wide-requires-3 c κs = search needs
+
+mul-result-2 : tie.Need-mul-result-2
+mul-result-2 c = search needs
+
+add-result-2 : tie.Need-add-result-2
+add-result-2 c = search needs
+
+add-wide-3 : tie.Need-add-wide-3
+add-wide-3 c = search needs
+
+shared-slice-read-wide-4 : tie.Need-shared-slice-read-wide-4
+shared-slice-read-wide-4 c = search needs
+
+wide-requires-4 : tie.Need-wide-requires-4
+wide-requires-4 c κs = search needs
+
+mul-result-3 : tie.Need-mul-result-3
+mul-result-3 c = search needs
+
+add-result-3 : tie.Need-add-result-3
+add-result-3 c = search needs
+
+returns : tie.Need-returns
+returns c =
+    let s : List ℕ = c .before .before .before .before .before .before .before .before .before .args .input .now in
+    let at : ℕ = c .before .before .before .before .before .before .before .before .before .args .at in
+    omega (
+      arith,
+      leValue-head 3 at s (omega arith),
+      leValue-next 2 at 1 s (omega arith),
+      leValue-next 1 at 2 s (omega arith),
+      leValue-next 0 at 3 s (omega arith),
+    )
+
+pub word-spec : {M : Type 1} → statement M
+word-spec =
+    tie.close
+    (tie.spec
+    shared-slice-read-wide
+    wide-requires
+    add-wide
+    shared-slice-read-wide-2
+    wide-requires-2
+    mul-result
+    add-result
+    add-wide-2
+    shared-slice-read-wide-3
+    wide-requires-3
+    mul-result-2
+    add-result-2
+    add-wide-3
+    shared-slice-read-wide-4
+    wide-requires-4
+    mul-result-3
+    add-result-3
+    returns)
