@@ -3,10 +3,12 @@ use mathlib.Core.Path.{_≡_, refl, ap, sym, _∙_}
 use mathlib.Core.List.{List, [], _∷_, map}
 use Prim.Native.Nat.{ℕ, zero, suc, _+_, _%_, _<_}
 use native.Mathlib.Omega.{arith}
-use lib.ListN.{length, getD}
+use native.Mathlib.Numerals.{add-one, add-two, add-three}
+use lib.ListN.{length, getD, set}
+use lib.Seq.{sets}
 use Rattle.packed.specs.Format.{steps, walked}
 use Rattle.packed.proofs.Bytes.{Below}
-use Rattle.packed.proofs.Deltas.{step-of}
+use Rattle.packed.proofs.Deltas.{lastOf, step-of}
 
 -- the four elements of a list of four
 abbrev pub fourOf : List ℕ → List ℕ
@@ -47,3 +49,14 @@ pub four-walked : (m p : ℕ) (g : List ℕ) (a b c d : ℕ) → length g ≡ 4
 four-walked m p g a b c d h ea eb ec ed =
     let e : walked m p (fourOf g) ≡ walked m p g = ap (walked m p) (sym (four-is g h)) in
     rw (ed, ec, eb, ea) e
+
+-- four stores one behind the other
+pub four-stores : (l g : List ℕ) (at : ℕ) → length g ≡ 4
+    → set (set (set (set l at (getD g 0 0)) (at + 1) (getD g 1 0)) (at + 2) (getD g 2 0)) (at + 3) (getD g 3 0) ≡ sets l at g
+four-stores l g at h =
+    let e : sets l at (fourOf g) ≡ sets l at g = ap (sets l at) (sym (four-is g h)) in
+    rw (add-one at, add-two at, add-three at) e
+
+-- the last of four
+pub last-of-four : (p : ℕ) (g : List ℕ) → length g ≡ 4 → getD g 3 0 ≡ lastOf p g
+last-of-four p g h = ap (lastOf p) (sym (four-is g h))

@@ -9,3 +9,6 @@ pub mod Loops
 pub mod Groups
 pub mod Examples
 pub mod Rows
+pub mod Columns
+pub mod Ends
+pub mod Runs

@@ -24,7 +24,7 @@ numbers-append (u ∷ us) ws s = rw (numbers-append us ws (drop u s), drop-drop 
 take-of-take : (w n : ℕ) (s : List ℕ) → take w (take (w + n) s) ≡ take w s
 take-of-take w n s = take-take w (w + n) s (le-add-right w n)
 
-drop-of-take : (w n : ℕ) (s : List ℕ) → drop w (take (w + n) s) ≡ take n (drop w s)
+pub drop-of-take : (w n : ℕ) (s : List ℕ) → drop w (take (w + n) s) ≡ take n (drop w s)
 drop-of-take zero n s = rw zero-add
 drop-of-take (suc w) n [] = ap (drop (suc w)) (take-nil (suc w + n)) ∙ sym (take-nil n)
 drop-of-take (suc w) n (x ∷ s) = ap (λ (k : ℕ). drop (suc w) (take k (x ∷ s))) (native.Mathlib.Nat.suc-add w n) ∙ drop-of-take w n s

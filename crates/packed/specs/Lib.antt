@@ -3,3 +3,4 @@ pub mod Group
 pub mod Stages
 pub mod Refusals
 pub mod Calls
+pub mod Column
