@@ -6,3 +6,6 @@ pub mod Widths
 pub mod Zeros
 pub mod Table
 pub mod Loops
+pub mod Groups
+pub mod Examples
+pub mod Rows

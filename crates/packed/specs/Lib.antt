@@ -1,2 +1,5 @@
 pub mod Format
 pub mod Group
+pub mod Stages
+pub mod Refusals
+pub mod Calls
