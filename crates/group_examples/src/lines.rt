@@ -112,67 +112,97 @@ fn count(n: usize) {
     text(b" bytes");
 }
 
-// A group and what it must be stored as.
-pub fn show_stored(group: [u64; 4], tag: u8, data: &[u8], came: Stored) {
-    numbers(group);
-    text(b" -> tag ");
-    byte(tag);
-    text(b", data");
-    bytes(data);
-    count(data.len());
-    let output = came.output;
-    if came.tag == tag && came.written == data.len() && holds(&output, data) {
-        text(b": ok\n");
-    } else {
-        text(b": WRONG, came tag ");
-        byte(came.tag);
-        text(b", buffer");
-        bytes(&output);
-        count(came.written);
-        text(b"\n");
-    }
-}
-
-// A tag with its data and the group that must be read, with 00 and with FF bytes behind the data.
-pub fn show_read(tag: u8, data: &[u8], group: [u64; 4], zeros: Got, ones: Got) {
+// A tag and its data.
+fn packed(tag: u8, data: &[u8]) {
     text(b" tag ");
     byte(tag);
     text(b", data");
     bytes(data);
+}
+
+fn arrow() {
     text(b" ->");
+}
+
+fn ok() {
+    text(b": ok\n");
+}
+
+fn wrong() {
+    text(b": WRONG, came");
+}
+
+fn end() {
+    text(b"\n");
+}
+
+fn is_stored(tag: u8, data: &[u8], came: Stored) -> bool {
+    let output = came.output;
+    came.tag == tag && came.written == data.len() && holds(&output, data)
+}
+
+// A group and what it must be stored as.
+pub fn show_stored(group: [u64; 4], tag: u8, data: &[u8], came: Stored) {
+    numbers(group);
+    arrow();
+    packed(tag, data);
+    count(data.len());
+    if is_stored(tag, data, came) {
+        ok();
+    } else {
+        wrong();
+        let output = came.output;
+        packed(came.tag, &output);
+        count(came.written);
+        end();
+    }
+}
+
+fn is_read(len: usize, group: [u64; 4], came: Got) -> bool {
+    let numbers = came.group;
+    came.read == len && same(numbers, group)
+}
+
+fn show_got(came: Got) {
+    let group = came.group;
+    numbers(group);
+    count(came.read);
+}
+
+// A tag with its data and the group that must be read, with 00 and with FF bytes behind the data.
+pub fn show_read(tag: u8, data: &[u8], group: [u64; 4], zeros: Got, ones: Got) {
+    packed(tag, data);
+    arrow();
     numbers(group);
     count(data.len());
-    let a = zeros.group;
-    let b = ones.group;
-    if zeros.read == data.len() && same(a, group) && ones.read == data.len() && same(b, group) {
-        text(b": ok\n");
+    if is_read(data.len(), group, zeros) && is_read(data.len(), group, ones) {
+        ok();
     } else {
-        text(b": WRONG, came");
-        numbers(a);
-        count(zeros.read);
-        text(b" and");
-        numbers(b);
-        count(ones.read);
-        text(b"\n");
+        wrong();
+        show_got(zeros);
+        show_got(ones);
+        end();
     }
+}
+
+fn show_sum(sum: u64, read: usize) {
+    text(b" sum ");
+    io::print_decimal(1, sum);
+    count(read);
 }
 
 // A tag with its data and the sum that a skip must give.
 pub fn show_skip(tag: u8, data: &[u8], sum: u64, came: Skip) {
-    text(b" skip tag ");
-    byte(tag);
-    text(b", data");
-    bytes(data);
-    text(b" -> sum ");
-    io::print_decimal(1, sum);
-    count(data.len());
+    text(b" skip");
+    packed(tag, data);
+    arrow();
+    show_sum(sum, data.len());
     if came.read == data.len() && came.sum == sum {
-        text(b": ok\n");
+        ok();
     } else {
-        text(b": WRONG, came ");
-        io::print_decimal(1, came.sum);
-        count(came.read);
-        text(b"\n");
+        wrong();
+        show_sum(came.sum, came.read);
+        end();
     }
 }
 
@@ -182,10 +212,10 @@ pub fn show_length(tag: u8, len: usize, came: usize) {
     byte(tag);
     count(len);
     if came == len {
-        text(b": ok\n");
+        ok();
     } else {
-        text(b": WRONG, came");
+        wrong();
         count(came);
-        text(b"\n");
+        end();
     }
 }
