@@ -1,59 +1,67 @@
+-- `decode_singles` meets its contract: by the laws of its loop. Assumes nothing.
+use mathlib.Core.Path.{_≡_, subst}
+use Prim.Native.Nat.{ℕ, _+_, _-_, _*_}
+use native.Mathlib.Nat.{add-assoc, add-zero}
+use native.Mathlib.Omega.{arith}
+use lib.ListN.{length, getD}
+use borrow.Author.Needs.{needs}
+use Rattle.packed.proofs.Ends.{group-most}
+use Rattle.packed.proofs.Runs.{Running, window, running-start, running-next, running-done}
+use Rattle.packed.specs.Format.{t1234, m32}
+use Rattle.decode_impl1234.proofs.Coder.{table}
+use Rattle.tag_utils.specs.Tables.{masks}
 use Rattle.decode_impl1234.proofs.runs.decode_singles.Statement.{statement}
 use Rattle.decode_impl1234.proofs.runs.decode_singles.Tie as tie
-use Rattle.decode_impl1234.proofs.runs.decode_singles.Reads as reads
-use Rattle.decode_impl1234.proofs.runs.decode_singles.Lts as lts
-use Rattle.decode_impl1234.proofs.runs.store_group.Reads as store-group-reads
-use Rattle.raw_group1234.proofs.raw_group.decode.Reads as decode-reads
 
 abbrev Inv-loop : tie.InvT-loop
-Inv-loop tags from to «data» at values₀ tag-len tag-max read₀ i₀ values read i = ?
+Inv-loop tags from to «data» at values₀ tag-len tag-max read₀ i₀ values read i = Running t1234 tags «data» values₀ from to at i read values × (tag-len ≡ t1234) × (tag-max ≡ masks t1234)
 
 abbrev μ-loop : tie.MeasureT-loop
-μ-loop tags from to «data» at values₀ tag-len tag-max read₀ i₀ values read i = ?
+μ-loop tags from to «data» at values₀ tag-len tag-max read₀ i₀ values read i = to - i
 
--- src/runs.rt:101:5
 loop-holds : tie.Need-loop-holds Inv-loop μ-loop
-loop-holds c = ?
+loop-holds c = (running-start t1234 (c .before .before .before .pre .0) (c .before .before .before .pre .1), c .before .before .before .pre .2 .0, c .before .before .before .pre .2 .1)
 
--- src/runs.rt:102:47
 shared-slice-read-decode : tie.Need-shared-slice-read-decode Inv-loop μ-loop
-shared-slice-read-decode c = ?
+shared-slice-read-decode c = omega (arith, c .before .before .loop .inv .0 .way .windows .tags-there)
 
--- src/runs.rt:102:13
 decode-requires : tie.Need-decode-requires Inv-loop μ-loop
-decode-requires c κs = ?
+decode-requires c κs = 
+    let s = c .before .before .loop .inv in
+    (window t1234 (s .0 .way) (c .before .loop-test .taken), (s .1, s .2))
 
--- src/runs.rt:104:29
 mul-store-group : tie.Need-mul-store-group Inv-loop μ-loop
-mul-store-group c = ?
+mul-store-group c = search needs
 
--- src/runs.rt:104:9
 store-group-requires : tie.Need-store-group-requires Inv-loop μ-loop
-store-group-requires c κs = ?
+store-group-requires c κs = search needs
 
--- src/runs.rt:105:9
 add-read : tie.Need-add-read Inv-loop μ-loop
-add-read c = ?
+add-read c =
+    let s = c .before .before .before .before .before .before .before .before .before .loop .inv in
+    omega (arith, window t1234 (s .0 .way) (c .before .before .before .before .before .before .before .before .loop-test .taken), c .before .before .before .before .before .before .decode .ensures .read, group-most t1234 table (getD (c .before .before .before .before .before .before .before .before .before .before .before .before .before .args .tags .now) (c .before .before .before .before .before .before .before .before .before .loop .i) 0))
 
--- src/runs.rt:101:9
 add-i : tie.Need-add-i Inv-loop μ-loop
-add-i c = ?
+add-i c = search needs
 
--- src/runs.rt:101:5
 loop-less : tie.Need-loop-less Inv-loop μ-loop
-loop-less c = ?
+loop-less c = search needs
 
--- src/runs.rt:101:5
 loop-again : tie.Need-loop-again Inv-loop μ-loop
-loop-again c = ?
+loop-again c =
+    let s = c .before .before .before .before .before .before .before .before .before .loop .inv in
+    (
+      running-next t1234 (c .before .before .before .before .before .before .decode .result .read) (c .before .before .before .before .before .before .decode .result .group) (c .before .before .before .store-group .last .0) (s .0) (c .before .before .before .before .before .before .before .before .loop-test .taken)
+      (c .before .before .before .before .before .before .decode .ensures) (c .before .before .before .store-group .ensures),
+      s .1,
+      s .2,
+    )
 
--- src/runs.rt:85:1
 same-length : tie.Need-same-length Inv-loop μ-loop
-same-length c = ?
+same-length c = search needs
 
--- src/runs.rt:85:1
 returns : tie.Need-returns Inv-loop μ-loop
-returns c = ?
+returns c = running-done t1234 (c .before .loop .inv .0) (c .loop-test .left)
 
 pub decode-singles-spec : {M : Type 1} → statement M
 decode-singles-spec =

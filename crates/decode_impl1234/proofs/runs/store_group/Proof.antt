@@ -1,76 +1,59 @@
+-- `store_group` meets its contract: four stores. Assumes nothing.
 use borrow.Author.Needs.{needs}
+use Rattle.packed.proofs.Fours.{four-stores}
 use Rattle.decode_impl1234.proofs.runs.store_group.Statement.{statement}
 use Rattle.decode_impl1234.proofs.runs.store_group.Tie as tie
-use Rattle.decode_impl1234.proofs.runs.store_group.Reads as reads
-use Rattle.decode_impl1234.proofs.runs.store_group.Lts as lts
 
--- src/runs.rt:30:18
 array-read-values : tie.Need-array-read-values
 array-read-values c = search needs
 
--- src/runs.rt:30:5
 mul-values : tie.Need-mul-values
 mul-values c = search needs
 
--- src/runs.rt:30:5
 slice-write-values : tie.Need-slice-write-values
 slice-write-values c = search needs
 
--- src/runs.rt:31:22
 array-read-values-2 : tie.Need-array-read-values-2
 array-read-values-2 c = search needs
 
--- src/runs.rt:31:12
 add-values : tie.Need-add-values
 add-values c = search needs
 
--- src/runs.rt:31:5
 mul-values-2 : tie.Need-mul-values-2
 mul-values-2 c = search needs
 
--- src/runs.rt:31:5
 slice-write-values-2 : tie.Need-slice-write-values-2
-slice-write-values-2 c = ?
+slice-write-values-2 c = search needs
 
--- src/runs.rt:32:22
 array-read-values-3 : tie.Need-array-read-values-3
 array-read-values-3 c = search needs
 
--- src/runs.rt:32:12
 add-values-2 : tie.Need-add-values-2
 add-values-2 c = search needs
 
--- src/runs.rt:32:5
 mul-values-3 : tie.Need-mul-values-3
 mul-values-3 c = search needs
 
--- src/runs.rt:32:5
 slice-write-values-3 : tie.Need-slice-write-values-3
-slice-write-values-3 c = ?
+slice-write-values-3 c = search needs
 
--- src/runs.rt:33:22
 array-read-values-4 : tie.Need-array-read-values-4
 array-read-values-4 c = search needs
 
--- src/runs.rt:33:12
 add-values-3 : tie.Need-add-values-3
 add-values-3 c = search needs
 
--- src/runs.rt:33:5
 mul-values-4 : tie.Need-mul-values-4
 mul-values-4 c = search needs
 
--- src/runs.rt:33:5
 slice-write-values-4 : tie.Need-slice-write-values-4
-slice-write-values-4 c = ?
+slice-write-values-4 c = search needs
 
--- src/runs.rt:26:1
 same-length : tie.Need-same-length
 same-length c = search needs
 
--- src/runs.rt:26:1
 returns : tie.Need-returns
-returns c = ?
+returns c = four-stores _ _ _ (search needs)
 
 pub store-group-spec : {M : Type 1} → statement M
 store-group-spec =
