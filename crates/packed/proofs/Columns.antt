@@ -5,11 +5,12 @@ use Prim.Native.Nat.{ℕ, zero, suc, _+_, _-_, _*_, _/_, _%_, _^_, _≤_, _<_}
 use native.Mathlib.Nat.{add-zero, zero-add, add-assoc, mod-lt, mod-eq-of-lt, mod-add-mod, add-mod-mod, lt-suc-self}
 use native.Mathlib.Numerals.{add-one}
 use native.Mathlib.Omega.{arith}
-use lib.ListN.{length, take, drop, getD, length-take, length-drop, length-append, replicate}
-use lib.Seq.{sets, sets-eq, take-append-le, slice, slice-empty, slice-cons, length-slice, length-take-le, take-add, drop-drop, drop-at, drop-append-le}
+use lib.ListN.{length, take, drop, getD, length-take, length-drop, length-append, replicate, set, drop-of-length-le}
+use lib.Seq.{drop-cons, sets, sets-eq, take-append-le, slice, slice-empty, slice-cons, length-slice, length-take-le, take-add, drop-drop, drop-at, drop-append-le}
 use Rattle.packed.specs.Format.{field, widths, columnWidths, total, dataLen, numbers, stored, walked, wrappingSum}
 use Rattle.packed.specs.Group.{Decodes, DecodesDeltas, Skips}
-use Rattle.packed.specs.Column.{Windows, Runs, RunsDeltas, RunsSum}
+use Rattle.packed.specs.Column.{Windows, Runs, RunsDeltas, RunsSum, Tail}
+use Rattle.packed.specs.Stages.{widestGroup}
 use Rattle.packed.proofs.Deltas.{walked-append, walked-length, walked-last, lastOf}
 use Rattle.packed.proofs.Loops.{sets-append}
 use Rattle.packed.proofs.Numbers.{total-append, numbers-length, numbers-same, dataLen-append, stored-append}
@@ -196,6 +197,34 @@ scratch-same t part bytes scratch at e short fit =
     let is : scratch ≡ rest ++ drop (0 + length rest) zeros = e ∙ sets-eq rest zeros 0 (rw (zero-add (length rest)) short) in
     numbers-same (columnWidths t part) scratch rest
     (ap (take n) is ∙ take-append-le n rest (drop (0 + length rest) zeros) fit)
+
+-- the loop that fills it: what is left to do
+pub record Copying (bytes : List ℕ) (at k : ℕ) (buf : List ℕ) : Type 0 where
+  pub inside : at + k ≤ length bytes
+  pub left : sets buf k (drop (at + k) bytes) ≡ sets (replicate 64 0) 0 (drop at bytes)
+
+pub copying-start : (bytes : List ℕ) (at : ℕ) → at ≤ length bytes → Copying bytes at 0 (replicate 64 0)
+copying-start bytes at h = record { inside = omega arith; left = rw (add-zero at) }
+
+pub copying-next : {bytes : List ℕ} {at k : ℕ} {buf : List ℕ} → Copying bytes at k buf → at + k < length bytes
+    → Copying bytes at (k + 1) (set buf k (getD bytes (at + k) 0))
+copying-next {bytes} {at} {k} {buf} c h =
+    let cut : drop (at + k) bytes ≡ getD bytes (at + k) 0 ∷ drop (suc (at + k)) bytes = drop-cons bytes (at + k) 0 h in
+    let e : at + (k + 1) ≡ suc (at + k) = omega arith in
+    record {
+      inside = omega arith;
+      left = ap₂ (λ (i n : ℕ). sets (set buf k (getD bytes (at + k) 0)) i (drop n bytes)) (add-one k) e
+          ∙ sym (ap (sets buf k) cut) ∙ c .left;
+    }
+
+pub copying-done : {bytes : List ℕ} {at k : ℕ} {buf : List ℕ} → Copying bytes at k buf → length bytes - at ≤ k → buf ≡ sets (replicate 64 0) 0 (drop at bytes)
+copying-done {bytes} {at} {k} {buf} c h =
+    sym (ap (sets buf k) (drop-of-length-le bytes {i = at + k} (omega arith))) ∙ c .left
+
+pub tail-same : (t tags bytes scratch : List ℕ) (g at : ℕ) → Tail t tags bytes g at → scratch ≡ sets (replicate 64 0) 0 (drop at bytes)
+    → widestGroup t ≤ 64 → stored t (slice g (length tags) tags) scratch ≡ stored t (slice g (length tags) tags) (drop at bytes)
+tail-same t tags bytes scratch g at x e wide =
+    scratch-same t (slice g (length tags) tags) bytes scratch at e (omega (arith, length-drop at bytes, x .short)) (omega (arith, length-drop at bytes, x .there))
 
 module _ (t tags bytes scratch : List ℕ) (a b at : ℕ)
     (same : stored t (slice a b tags) scratch ≡ stored t (slice a b tags) (drop at bytes)) where

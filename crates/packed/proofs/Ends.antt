@@ -13,7 +13,7 @@ use lib.Seq.{drop-drop, drop-cons, slice, slice-empty, slice-cons, length-slice,
 use borrow.Author.Tests.{leb-true, leb-false, le-leb, lt-leb}
 use Rattle.packed.specs.Format.{pick, field, widths, total, columnWidths, dataLen}
 use Rattle.packed.specs.Stages.{widestGroup, slack, eightsFrom, eights, singles, staged, whereAny, tailTakes, tailCopied}
-use Rattle.packed.specs.Column.{Windows, Ends, Measured, EndsAt}
+use Rattle.packed.specs.Column.{Windows, Ends, Measured, EndsAt, Tail}
 use Rattle.packed.proofs.Columns.{slice-join, slice-one}
 use Rattle.packed.proofs.Loops.{allLe, at-most}
 use Rattle.packed.proofs.Numbers.{total-append, dataLen-append, drop-of-take}
@@ -284,17 +284,25 @@ module _ (t : List ℕ) (is : Table t) where
           second .few (omega (arith, groups, length-drop e tags)),
         )
 
-    -- the tail's groups in the scratch
-    pub third-stage : (scratch : List ℕ) → length scratch ≡ 64 → g < length tags → taken ≤ copied → widestGroup t ≤ 32
-        → Windows t tags scratch g (length tags) 0
-    third-stage scratch hs h fit wide = record {
-      forward = groups-in;
-      tags-there = le-refl (length tags);
-      there = λ k hk kn.
-          let f : dataLen t (slice g (length tags) tags) ≡ dataLen t (slice g k tags) + dataLen t (slice k (length tags) tags) =
-          ap (dataLen t) (slice-join g k (length tags) tags hk (omega arith) (omega arith)) ∙ dataLen-append t (slice g k tags) (slice k (length tags) tags) in
-          omega (arith, tail-takes, tail-short h);
+    -- where the tail starts
+    pub tail : g < length tags → taken ≤ copied → Tail t tags bytes g gr
+    tail h fit = record {
+      inside = groups-in;
+      there = omega (arith, tail-takes, tail-copied h, read-room);
+      short = omega (arith, tail-copied h, tail-short h);
     }
+
+  -- the tail's groups have a whole widest group's bytes in the scratch
+  pub tail-windows : (tags bytes scratch : List ℕ) (g at : ℕ) → Tail t tags bytes g at → length scratch ≡ 64 → widestGroup t ≤ 32
+      → Windows t tags scratch g (length tags) 0
+  tail-windows tags bytes scratch g at x hs wide = record {
+    forward = x .inside;
+    tags-there = le-refl (length tags);
+    there = λ k hk kn.
+        let f : dataLen t (slice g (length tags) tags) ≡ dataLen t (slice g k tags) + dataLen t (slice k (length tags) tags) =
+        ap (dataLen t) (slice-join g k (length tags) tags hk (omega arith) (omega arith)) ∙ dataLen-append t (slice g k tags) (slice k (length tags) tags) in
+        omega (arith, x .there, x .short);
+  }
 
   -- ---- lengths of runs of tags
 

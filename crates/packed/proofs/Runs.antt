@@ -96,6 +96,17 @@ module _ (t : List ℕ) where
       (subst (λ (l : List ℕ). Runs t tags bytes values i (i + 1) read (read + n) l) (sym e)
       (runs-one t tags bytes values i read n group (omega (arith, r .way .windows .tags-there)) d))
 
+  -- the same counted from the run's first group
+  pub running-from : {tags bytes before : List ℕ} {from to at : ℕ} → Windows t tags bytes from to at → 4 * to ≤ length before
+      → Running tags bytes before from to at (from + 0) at before
+  running-from {tags} {bytes} {before} {from} {to} {at} w h = rw (add-zero from) (running-start w h)
+
+  pub running-step : {tags bytes before values : List ℕ} {from to at read : ℕ} (base k n : ℕ) (group values′ : List ℕ)
+      → Running tags bytes before from to at (base + k) read values → base + k < to → Decodes t bytes read (getD tags (base + k) 0) n group
+      → values′ ≡ sets values (4 * (base + k)) group → Running tags bytes before from to at (base + (k + 1)) (read + n) values′
+  running-step {tags} {bytes} {before} {values} {from} {to} {at} {read} base k n group values′ r h d e =
+      subst (λ (j : ℕ). Running tags bytes before from to at j (read + n) values′) (add-assoc base k 1) (running-next n group values′ r h d e)
+
   pub running-done : {tags bytes before values : List ℕ} {from to at i read : ℕ} → Running tags bytes before from to at i read values → to ≤ i
       → Runs t tags bytes before from to at read values
   running-done {tags} {bytes} {before} {values} {from} {to} {at} {i} {read} r h =
@@ -148,6 +159,17 @@ module _ (t : List ℕ) where
       (subst (λ (l : List ℕ). RunsDeltas t tags bytes values m i (i + 1) read last (read + n) (getD group 3 0) l) (sym e)
       (deltas-one t tags bytes values m i read last n (getD group 3 0) group (omega (arith, r .way .windows .tags-there)) (r .small) d (last-of-four last group four)))
 
+  pub running-deltas-from : {tags bytes before : List ℕ} {m from to at p : ℕ} → Windows t tags bytes from to at → 4 * to ≤ length before → p < m
+      → RunningDeltas tags bytes before m from to at p (from + 0) at p before
+  running-deltas-from {tags} {bytes} {before} {m} {from} {to} {at} {p} w h hp = rw (add-zero from) (running-deltas-start w h hp)
+
+  pub running-deltas-step : {tags bytes before values : List ℕ} {m from to at p read last : ℕ} (base k n : ℕ) (group values′ : List ℕ)
+      → RunningDeltas tags bytes before m from to at p (base + k) read last values → base + k < to → length group ≡ 4
+      → DecodesDeltas t bytes m read (getD tags (base + k) 0) last n group → values′ ≡ sets values (4 * (base + k)) group
+      → RunningDeltas tags bytes before m from to at p (base + (k + 1)) (read + n) (getD group 3 0) values′
+  running-deltas-step {tags} {bytes} {before} {values} {m} {from} {to} {at} {p} {read} {last} base k n group values′ r h four d e =
+      subst (λ (j : ℕ). RunningDeltas tags bytes before m from to at p j (read + n) (getD group 3 0) values′) (add-assoc base k 1) (running-deltas-next n group values′ r h four d e)
+
   pub running-deltas-done : {tags bytes before values : List ℕ} {m from to at p i read last : ℕ}
       → RunningDeltas tags bytes before m from to at p i read last values → to ≤ i → RunsDeltas t tags bytes before m from to at p read last values
   running-deltas-done {tags} {bytes} {before} {values} {m} {from} {to} {at} {p} {i} {read} {last} r h =
@@ -184,6 +206,16 @@ module _ (t : List ℕ) where
   running-sum-next {tags} {bytes} {m} {from} {to} {at} {p} {i} {read} {sum} n s sum′ r h d e =
       running-sum-part (i + 1) (read + n) sum′ r (omega arith) (omega arith)
       (sum-one t tags bytes m i read sum n s sum′ (omega (arith, r .way .windows .tags-there)) d e)
+
+  pub running-sum-from : {tags bytes : List ℕ} {m from to at p : ℕ} → Windows t tags bytes from to at → p < m
+      → RunningSum tags bytes m from to at p (from + 0) at p
+  running-sum-from {tags} {bytes} {m} {from} {to} {at} {p} w hp = rw (add-zero from) (running-sum-start w hp)
+
+  pub running-sum-step : {tags bytes : List ℕ} {m from to at p read sum : ℕ} (base k n s sum′ : ℕ) → RunningSum tags bytes m from to at p (base + k) read sum
+      → base + k < to → Skips t bytes m read (getD tags (base + k) 0) n s → sum′ ≡ (sum + s) % m
+      → RunningSum tags bytes m from to at p (base + (k + 1)) (read + n) sum′
+  running-sum-step {tags} {bytes} {m} {from} {to} {at} {p} {read} {sum} base k n s sum′ r h d e =
+      subst (λ (j : ℕ). RunningSum tags bytes m from to at p j (read + n) sum′) (add-assoc base k 1) (running-sum-next n s sum′ r h d e)
 
   pub running-sum-done : {tags bytes : List ℕ} {m from to at p i read sum : ℕ} → RunningSum tags bytes m from to at p i read sum → to ≤ i
       → RunsSum t tags bytes m from to at p read sum

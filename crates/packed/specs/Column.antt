@@ -58,3 +58,9 @@ pub record EndsAt (t tags bytes : List ℕ) (groups r-groups r-read : ℕ) : Typ
   pub inside : r-groups ≤ length tags
   pub read : r-read ≡ dataLen t (take r-groups tags)
   pub room : r-read ≤ length bytes
+
+-- What is left for the tail: its bytes are there, and less than a whole widest group's are left.
+pub record Tail (t tags bytes : List ℕ) (groups at : ℕ) : Type 0 where
+  pub inside : groups ≤ length tags
+  pub there : at + dataLen t (slice groups (length tags) tags) ≤ length bytes
+  pub short : length bytes - at < widestGroup t

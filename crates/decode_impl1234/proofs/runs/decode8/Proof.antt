@@ -1,67 +1,77 @@
+-- `decode8` meets its contract: by the laws of its loop. Assumes nothing.
+use mathlib.Core.Path.{_≡_}
+use Prim.Native.Nat.{_-_, _+_}
+use native.Mathlib.Omega.{arith}
+use lib.ListN.{getD}
+use borrow.Author.Needs.{needs}
+use Rattle.packed.proofs.Ends.{group-most}
+use Rattle.packed.proofs.Runs.{Running, window, running-from, running-step, running-done}
+use Rattle.packed.specs.Format.{t1234}
+use Rattle.decode_impl1234.proofs.Coder.{table}
+use Rattle.tag_utils.specs.Tables.{masks}
 use Rattle.decode_impl1234.proofs.runs.decode8.Statement.{statement}
 use Rattle.decode_impl1234.proofs.runs.decode8.Tie as tie
-use Rattle.decode_impl1234.proofs.runs.decode8.Reads as reads
-use Rattle.decode_impl1234.proofs.runs.decode8.Lts as lts
-use Rattle.decode_impl1234.proofs.runs.store_group.Reads as store-group-reads
-use Rattle.raw_group1234.proofs.raw_group.decode.Reads as decode-reads
 
 abbrev Inv-loop : tie.InvT-loop
-Inv-loop tags i «data» at values₀ tag-len tag-max read₀ k₀ values read k = ?
+Inv-loop tags i «data» at values₀ tag-len tag-max read₀ k₀ values read k = Running t1234 tags «data» values₀ i (i + 8) at (i + k) read values × (tag-len ≡ t1234) × (tag-max ≡ masks t1234)
 
 abbrev μ-loop : tie.MeasureT-loop
-μ-loop tags i «data» at values₀ tag-len tag-max read₀ k₀ values read k = ?
+μ-loop tags i «data» at values₀ tag-len tag-max read₀ k₀ values read k = 8 - k
 
--- src/runs.rt:52:5
 loop-holds : tie.Need-loop-holds Inv-loop μ-loop
-loop-holds c = ?
+loop-holds c = (running-from t1234 (c .before .before .before .pre .0) (c .before .before .before .pre .1 .0), c .before .before .before .pre .1 .1 .0, c .before .before .before .pre .1 .1 .1)
 
--- src/runs.rt:53:52
 add-decode : tie.Need-add-decode Inv-loop μ-loop
-add-decode c = ?
+add-decode c = omega (arith, c .before .loop .inv .0 .way .windows .tags-there)
 
--- src/runs.rt:53:47
 shared-slice-read-decode : tie.Need-shared-slice-read-decode Inv-loop μ-loop
-shared-slice-read-decode c = ?
+shared-slice-read-decode c = omega (arith, c .before .before .loop .inv .0 .way .windows .tags-there)
 
--- src/runs.rt:53:13
 decode-requires : tie.Need-decode-requires Inv-loop μ-loop
-decode-requires c κs = ?
+decode-requires c κs =
+    let s = c .before .before .loop .inv in
+    (window t1234 (s .0 .way) (omega arith), (s .1, s .2))
 
--- src/runs.rt:55:34
 add-store-group : tie.Need-add-store-group Inv-loop μ-loop
-add-store-group c = ?
+add-store-group c = omega (arith, c .before .before .before .before .before .loop .inv .0 .way .windows .tags-there)
 
--- src/runs.rt:55:29
 mul-store-group : tie.Need-mul-store-group Inv-loop μ-loop
-mul-store-group c = ?
+mul-store-group c = omega (arith, c .before .before .before .before .before .loop .inv .0 .room)
 
--- src/runs.rt:55:9
 store-group-requires : tie.Need-store-group-requires Inv-loop μ-loop
-store-group-requires c κs = ?
+store-group-requires c κs = omega (arith, c .before .before .before .before .before .loop .inv .0 .room)
 
--- src/runs.rt:56:9
 add-read : tie.Need-add-read Inv-loop μ-loop
-add-read c = ?
+add-read c =
+    let s = c .before .before .before .before .before .before .before .before .before .loop .inv in
+    omega (
+      arith,
+      window t1234 (s .0 .way) (omega arith),
+      c .before .before .before .before .before .before .decode .ensures .read,
+      group-most t1234 table (getD (c .before .before .before .before .before .before .before .before .before .before .before .before .before .args .tags .now) (c .before .before .before .before .before .before .before .before .before .before .before .before .before .args .i + c .before .before .before .before .before .before .before .before .before .loop .k) 0),
+    )
 
--- src/runs.rt:52:9
 add-k : tie.Need-add-k Inv-loop μ-loop
-add-k c = ?
+add-k c = search needs
 
--- src/runs.rt:52:5
 loop-less : tie.Need-loop-less Inv-loop μ-loop
-loop-less c = ?
+loop-less c = search needs
 
--- src/runs.rt:52:5
 loop-again : tie.Need-loop-again Inv-loop μ-loop
-loop-again c = ?
+loop-again c =
+    let s = c .before .before .before .before .before .before .before .before .before .loop .inv in
+    let d = c .before .before .before .before .before .before .decode in (
+      running-step t1234 (c .before .before .before .before .before .before .before .before .before .before .before .before .before .args .i) (c .before .before .before .before .before .before .before .before .before .loop .k) (d .result .read) (d .result .group) (c .before .before .before .store-group .last .0) (s .0) (omega arith) (d .ensures)
+          (c .before .before .before .store-group .ensures),
+      s .1,
+      s .2,
+    )
 
--- src/runs.rt:37:1
 same-length : tie.Need-same-length Inv-loop μ-loop
-same-length c = ?
+same-length c = search needs
 
--- src/runs.rt:37:1
 returns : tie.Need-returns Inv-loop μ-loop
-returns c = ?
+returns c = running-done t1234 (c .before .loop .inv .0) (omega arith)
 
 pub decode8-spec : {M : Type 1} → statement M
 decode8-spec =

@@ -1,59 +1,75 @@
+-- `decode_deltas_singles` meets its contract: by the laws of its loop. Assumes nothing.
+use mathlib.Core.Path.{_≡_}
+use Prim.Native.Nat.{_-_}
+use native.Mathlib.Omega.{arith}
+use lib.ListN.{getD}
+use mir.Syntax.{w32}
+use borrow.Author.Needs.{needs}
+use Rattle.packed.proofs.Bytes.{Below, below-fits}
+use Rattle.packed.proofs.Ends.{group-most}
+use Rattle.packed.proofs.Runs.{RunningDeltas, window, running-deltas-start, running-deltas-next, running-deltas-done}
+use Rattle.packed.specs.Format.{t1234, m32}
+use Rattle.decode_impl1234.proofs.Coder.{table}
+use Rattle.tag_utils.specs.Tables.{masks}
 use Rattle.decode_impl1234.proofs.runs.decode_deltas_singles.Statement.{statement}
 use Rattle.decode_impl1234.proofs.runs.decode_deltas_singles.Tie as tie
-use Rattle.decode_impl1234.proofs.runs.decode_deltas_singles.Reads as reads
-use Rattle.decode_impl1234.proofs.runs.decode_deltas_singles.Lts as lts
-use Rattle.decode_impl1234.proofs.runs.store_group.Reads as store-group-reads
-use Rattle.raw_group1234.proofs.raw_group.decode_deltas.Reads as decode-deltas-reads
 
 abbrev Inv-loop : tie.InvT-loop
-Inv-loop tags from to «data» at values₀ tag-len tag-max read₀ prev₀ i₀ values read prev i = ?
+Inv-loop tags from to «data» at values₀ tag-len tag-max read₀ prev₀ i₀ values read prev i = RunningDeltas t1234 tags «data» values₀ m32 from to at (getD prev₀ 3 0) i read (getD prev 3 0) values × (tag-len ≡ t1234) × (tag-max ≡ masks t1234)
 
 abbrev μ-loop : tie.MeasureT-loop
-μ-loop tags from to «data» at values₀ tag-len tag-max read₀ prev₀ i₀ values read prev i = ?
+μ-loop tags from to «data» at values₀ tag-len tag-max read₀ prev₀ i₀ values read prev i = to - i
 
--- src/runs.rt:183:5
 loop-holds : tie.Need-loop-holds Inv-loop μ-loop
-loop-holds c = ?
+loop-holds c =
+    let base : Below m32 (c .before .before .before .args .base) = below-fits w32 (c .before .before .before .args .base) (λ i. search needs) in
+    (running-deltas-start t1234 (c .before .before .before .pre .0) (c .before .before .before .pre .1 .0) (base 3), c .before .before .before .pre .1 .1 .0, c .before .before .before .pre .1 .1 .1)
 
--- src/runs.rt:184:54
 shared-slice-read-decode-deltas : tie.Need-shared-slice-read-decode-deltas Inv-loop μ-loop
-shared-slice-read-decode-deltas c = ?
+shared-slice-read-decode-deltas c = omega (arith, c .before .before .loop .inv .0 .way .windows .tags-there)
 
--- src/runs.rt:184:13
 decode-deltas-requires : tie.Need-decode-deltas-requires Inv-loop μ-loop
-decode-deltas-requires c κs = ?
+decode-deltas-requires c κs =
+    let s = c .before .before .loop .inv in
+    (window t1234 (s .0 .way) (c .before .loop-test .taken), (s .1, s .2))
 
--- src/runs.rt:186:29
 mul-store-group : tie.Need-mul-store-group Inv-loop μ-loop
-mul-store-group c = ?
+mul-store-group c = omega (arith, c .before .before .before .before .before .loop .inv .0 .room)
 
--- src/runs.rt:186:9
 store-group-requires : tie.Need-store-group-requires Inv-loop μ-loop
-store-group-requires c κs = ?
+store-group-requires c κs = omega (arith, c .before .before .before .before .before .loop .inv .0 .room)
 
--- src/runs.rt:187:9
 add-read : tie.Need-add-read Inv-loop μ-loop
-add-read c = ?
+add-read c =
+    let s = c .before .before .before .before .before .before .before .before .before .loop .inv in
+    omega (
+      arith,
+      window t1234 (s .0 .way) (c .before .before .before .before .before .before .before .before .loop-test .taken),
+      c .before .before .before .before .before .before .decode-deltas .ensures .read,
+      group-most t1234 table (getD (c .before .before .before .before .before .before .before .before .before .before .before .before .before .args .tags .now) (c .before .before .before .before .before .before .before .before .before .loop .i) 0),
+    )
 
--- src/runs.rt:183:9
 add-i : tie.Need-add-i Inv-loop μ-loop
-add-i c = ?
+add-i c = search needs
 
--- src/runs.rt:183:5
 loop-less : tie.Need-loop-less Inv-loop μ-loop
-loop-less c = ?
+loop-less c = search needs
 
--- src/runs.rt:183:5
 loop-again : tie.Need-loop-again Inv-loop μ-loop
-loop-again c = ?
+loop-again c =
+    let s = c .before .before .before .before .before .before .before .before .before .loop .inv in
+    let d = c .before .before .before .before .before .before .decode-deltas in (
+      running-deltas-next t1234 (d .result .read) (d .result .group) (c .before .before .before .store-group .last .0) (s .0) (c .before .before .before .before .before .before .before .before .loop-test .taken)
+          (search needs) (d .ensures) (c .before .before .before .store-group .ensures),
+      s .1,
+      s .2,
+    )
 
--- src/runs.rt:165:1
 same-length : tie.Need-same-length Inv-loop μ-loop
-same-length c = ?
+same-length c = search needs
 
--- src/runs.rt:165:1
 returns : tie.Need-returns Inv-loop μ-loop
-returns c = ?
+returns c = running-deltas-done t1234 (c .before .loop .inv .0) (c .loop-test .left)
 
 pub decode-deltas-singles-spec : {M : Type 1} → statement M
 decode-deltas-singles-spec =

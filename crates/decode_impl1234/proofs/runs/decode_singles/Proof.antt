@@ -1,13 +1,12 @@
 -- `decode_singles` meets its contract: by the laws of its loop. Assumes nothing.
-use mathlib.Core.Path.{_≡_, subst}
-use Prim.Native.Nat.{ℕ, _+_, _-_, _*_}
-use native.Mathlib.Nat.{add-assoc, add-zero}
+use mathlib.Core.Path.{_≡_}
+use Prim.Native.Nat.{_-_}
 use native.Mathlib.Omega.{arith}
-use lib.ListN.{length, getD}
+use lib.ListN.{getD}
 use borrow.Author.Needs.{needs}
 use Rattle.packed.proofs.Ends.{group-most}
 use Rattle.packed.proofs.Runs.{Running, window, running-start, running-next, running-done}
-use Rattle.packed.specs.Format.{t1234, m32}
+use Rattle.packed.specs.Format.{t1234}
 use Rattle.decode_impl1234.proofs.Coder.{table}
 use Rattle.tag_utils.specs.Tables.{masks}
 use Rattle.decode_impl1234.proofs.runs.decode_singles.Statement.{statement}
@@ -20,26 +19,31 @@ abbrev μ-loop : tie.MeasureT-loop
 μ-loop tags from to «data» at values₀ tag-len tag-max read₀ i₀ values read i = to - i
 
 loop-holds : tie.Need-loop-holds Inv-loop μ-loop
-loop-holds c = (running-start t1234 (c .before .before .before .pre .0) (c .before .before .before .pre .1), c .before .before .before .pre .2 .0, c .before .before .before .pre .2 .1)
+loop-holds c = (running-start t1234 (c .before .before .before .pre .0) (c .before .before .before .pre .1 .0), c .before .before .before .pre .1 .1 .0, c .before .before .before .pre .1 .1 .1)
 
 shared-slice-read-decode : tie.Need-shared-slice-read-decode Inv-loop μ-loop
 shared-slice-read-decode c = omega (arith, c .before .before .loop .inv .0 .way .windows .tags-there)
 
 decode-requires : tie.Need-decode-requires Inv-loop μ-loop
-decode-requires c κs = 
+decode-requires c κs =
     let s = c .before .before .loop .inv in
     (window t1234 (s .0 .way) (c .before .loop-test .taken), (s .1, s .2))
 
 mul-store-group : tie.Need-mul-store-group Inv-loop μ-loop
-mul-store-group c = search needs
+mul-store-group c = omega (arith, c .before .before .before .before .before .loop .inv .0 .room)
 
 store-group-requires : tie.Need-store-group-requires Inv-loop μ-loop
-store-group-requires c κs = search needs
+store-group-requires c κs = omega (arith, c .before .before .before .before .before .loop .inv .0 .room)
 
 add-read : tie.Need-add-read Inv-loop μ-loop
 add-read c =
     let s = c .before .before .before .before .before .before .before .before .before .loop .inv in
-    omega (arith, window t1234 (s .0 .way) (c .before .before .before .before .before .before .before .before .loop-test .taken), c .before .before .before .before .before .before .decode .ensures .read, group-most t1234 table (getD (c .before .before .before .before .before .before .before .before .before .before .before .before .before .args .tags .now) (c .before .before .before .before .before .before .before .before .before .loop .i) 0))
+    omega (
+      arith,
+      window t1234 (s .0 .way) (c .before .before .before .before .before .before .before .before .loop-test .taken),
+      c .before .before .before .before .before .before .decode .ensures .read,
+      group-most t1234 table (getD (c .before .before .before .before .before .before .before .before .before .before .before .before .before .args .tags .now) (c .before .before .before .before .before .before .before .before .before .loop .i) 0),
+    )
 
 add-i : tie.Need-add-i Inv-loop μ-loop
 add-i c = search needs
@@ -50,9 +54,9 @@ loop-less c = search needs
 loop-again : tie.Need-loop-again Inv-loop μ-loop
 loop-again c =
     let s = c .before .before .before .before .before .before .before .before .before .loop .inv in
-    (
-      running-next t1234 (c .before .before .before .before .before .before .decode .result .read) (c .before .before .before .before .before .before .decode .result .group) (c .before .before .before .store-group .last .0) (s .0) (c .before .before .before .before .before .before .before .before .loop-test .taken)
-      (c .before .before .before .before .before .before .decode .ensures) (c .before .before .before .store-group .ensures),
+    let d = c .before .before .before .before .before .before .decode in (
+      running-next t1234 (d .result .read) (d .result .group) (c .before .before .before .store-group .last .0) (s .0) (c .before .before .before .before .before .before .before .before .loop-test .taken) (d .ensures)
+          (c .before .before .before .store-group .ensures),
       s .1,
       s .2,
     )

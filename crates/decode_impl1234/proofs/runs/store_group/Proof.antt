@@ -1,4 +1,6 @@
 -- `store_group` meets its contract: four stores. Assumes nothing.
+use native.Mathlib.Omega.{arith}
+use lib.ListN.{length-set}
 use borrow.Author.Needs.{needs}
 use Rattle.packed.proofs.Fours.{four-stores}
 use Rattle.decode_impl1234.proofs.runs.store_group.Statement.{statement}
@@ -23,7 +25,7 @@ mul-values-2 : tie.Need-mul-values-2
 mul-values-2 c = search needs
 
 slice-write-values-2 : tie.Need-slice-write-values-2
-slice-write-values-2 c = search needs
+slice-write-values-2 c = simp length-set (omega arith)
 
 array-read-values-3 : tie.Need-array-read-values-3
 array-read-values-3 c = search needs
@@ -35,7 +37,7 @@ mul-values-3 : tie.Need-mul-values-3
 mul-values-3 c = search needs
 
 slice-write-values-3 : tie.Need-slice-write-values-3
-slice-write-values-3 c = search needs
+slice-write-values-3 c = simp length-set (omega arith)
 
 array-read-values-4 : tie.Need-array-read-values-4
 array-read-values-4 c = search needs
@@ -47,13 +49,13 @@ mul-values-4 : tie.Need-mul-values-4
 mul-values-4 c = search needs
 
 slice-write-values-4 : tie.Need-slice-write-values-4
-slice-write-values-4 c = search needs
+slice-write-values-4 c = simp length-set (omega arith)
 
 same-length : tie.Need-same-length
-same-length c = search needs
+same-length c = simp length-set
 
 returns : tie.Need-returns
-returns c = four-stores _ _ _ (search needs)
+returns c = four-stores (c .args .values .now) (c .args .t3) (c .args .at) (search needs)
 
 pub store-group-spec : {M : Type 1} → statement M
 store-group-spec =
