@@ -292,6 +292,23 @@ module _ (t : List ℕ) (is : Table t) where
       short = omega (arith, tail-copied h, tail-short h);
     }
 
+    -- the same from where the stages before have ended in the data
+    first-read : (x : ℕ) → x ≡ 0 + dataLen t (slice 0 e tags) → x ≡ er
+    first-read x ex = ex ∙ zero-add (dataLen t (slice 0 e tags)) ∙ sym (ends .eights-read)
+
+    pub second-start : (x : ℕ) → x ≡ 0 + dataLen t (slice 0 e tags) → Windows t tags bytes e g x
+    second-start x ex = subst (Windows t tags bytes e g) (sym (first-read x ex)) second-stage
+
+    pub tail-start : (x y : ℕ) → x ≡ 0 + dataLen t (slice 0 e tags) → y ≡ x + dataLen t (slice e g tags) → g < length tags → taken ≤ copied
+        → Tail t tags bytes g y
+    tail-start x y ex ey h fit =
+        let f : dataLen t (take g tags) ≡ dataLen t (take e tags) + dataLen t (slice e g tags) =
+        ap (dataLen t) (slice-join 0 e g tags zero-le eights-before eights-in) ∙ dataLen-append t (take e tags) (slice e g tags) in
+        subst (Tail t tags bytes g) (omega (arith, first-read x ex, ends .read, ends .eights-read)) (tail h fit)
+
+    pub all-groups : length tags ≤ g → g ≡ length tags
+    all-groups h = omega (arith, groups-in)
+
   -- the tail's groups have a whole widest group's bytes in the scratch
   pub tail-windows : (tags bytes scratch : List ℕ) (g at : ℕ) → Tail t tags bytes g at → length scratch ≡ 64 → widestGroup t ≤ 32
       → Windows t tags scratch g (length tags) 0

@@ -1,49 +1,47 @@
+-- `scratch` meets its contract: by the laws of its loop. Assumes nothing.
+use mathlib.Core.Path.{_≡_, refl}
+use Prim.Native.Nat.{_-_, _≤_}
+use native.Mathlib.Omega.{arith}
+use lib.ListN.{length, length-set}
+use borrow.Author.Needs.{needs}
+use Rattle.packed.proofs.Columns.{Copying, copying-start, copying-next, copying-done}
 use Rattle.decode_impl1234.proofs.stages.scratch.Statement.{statement}
 use Rattle.decode_impl1234.proofs.stages.scratch.Tie as tie
-use Rattle.decode_impl1234.proofs.stages.scratch.Reads as reads
-use Rattle.decode_impl1234.proofs.stages.scratch.Lts as lts
 
 abbrev Inv-loop : tie.InvT-loop
-Inv-loop «data» read buf₀ k₀ k-end buf k = ?
+Inv-loop «data» read buf₀ k₀ k-end buf k = Copying «data» read k buf × (k-end ≡ length «data» - read) × (length «data» - read ≤ 64) × (length buf ≡ 64)
 
 abbrev μ-loop : tie.MeasureT-loop
-μ-loop «data» read buf₀ k₀ k-end buf k = ?
+μ-loop «data» read buf₀ k₀ k-end buf k = k-end - k
 
--- src/stages.rt:20:17
 sub-k-end : tie.Need-sub-k-end Inv-loop μ-loop
-sub-k-end c = ?
+sub-k-end c = search needs
 
--- src/stages.rt:20:5
 loop-holds : tie.Need-loop-holds Inv-loop μ-loop
-loop-holds c = ?
+loop-holds c = (copying-start _ _ (search needs), refl, search needs, refl)
 
--- src/stages.rt:21:23
 add-buf : tie.Need-add-buf Inv-loop μ-loop
-add-buf c = ?
+add-buf c = search needs
 
--- src/stages.rt:21:18
 shared-slice-read-buf : tie.Need-shared-slice-read-buf Inv-loop μ-loop
-shared-slice-read-buf c = ?
+shared-slice-read-buf c = search needs
 
--- src/stages.rt:21:9
 array-write-buf : tie.Need-array-write-buf Inv-loop μ-loop
-array-write-buf c = ?
+array-write-buf c = search needs
 
--- src/stages.rt:20:9
 add-k : tie.Need-add-k Inv-loop μ-loop
-add-k c = ?
+add-k c = search needs
 
--- src/stages.rt:20:5
 loop-less : tie.Need-loop-less Inv-loop μ-loop
-loop-less c = ?
+loop-less c = search needs
 
--- src/stages.rt:20:5
 loop-again : tie.Need-loop-again Inv-loop μ-loop
-loop-again c = ?
+loop-again c =
+    let s = c .before .before .loop .inv in
+    (copying-next (s .0) (omega arith), s .1, s .2, simp length-set (s .3))
 
--- src/stages.rt:15:1
 returns : tie.Need-returns Inv-loop μ-loop
-returns c = ?
+returns c = copying-done (c .before .loop .inv .0) (omega arith)
 
 pub scratch-spec : {M : Type 1} → statement M
 scratch-spec =
