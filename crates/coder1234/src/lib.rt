@@ -1,0 +1,138 @@
+// The calls of `Coder1234`. Each answers on any input: what it cannot do it refuses, by number, and then alters nothing.
+ghost use mathlib.Core.Path.{_≡_};
+ghost use lib.ListN.{length};
+ghost use Rattle.packed.specs.Format.{t1234, m32};
+ghost use Rattle.packed.specs.Refusals.{lentToDecode, lentToRead, firstOf};
+ghost use Rattle.packed.specs.Calls.{decoded, decoding, decodingDeltas, skipping, measuring};
+ghost use Rattle.answers.specs.Meaning.{counted, skipped32, countRows, limitRow};
+use answers::Counted;
+use answers::Skipped32;
+use answers::Verdict;
+use decode_impl1234::ends;
+use decode_impl1234::stages;
+use raw_group1234::coding_descriptor;
+
+// Decodes input tags and data streams to an output slice. Returns the number of bytes consumed from the data stream.
+pub fn decode(tags: &[u8], data: &[u8], values: &mut [u32]) -> Counted
+    ensures { λ r. ⌜ decoded (counted r) (now (values .exit)) ≡ decoding t1234 (now (tags .entry)) (now («data» .entry)) (now (values .entry)) ⌝ }
+{
+    let verdict = answers::count_verdict(values.len(), tags.len());
+    match verdict {
+        Verdict::Refused(why) => Counted::Refused(why),
+        Verdict::Accepted => decode_matching(tags, data, values),
+    }
+}
+
+// Tags and values match: what is left to refuse is the data.
+fn decode_matching(tags: &[u8], data: &[u8], values: &mut [u32]) -> Counted
+    requires { ⌜ firstOf t1234 (lentToDecode (length (now values)) (now tags) (length (now «data»))) countRows ≡ 0 ⌝ }
+    ensures { λ r. ⌜ decoded (counted r) (now (values .exit)) ≡ decoding t1234 (now (tags .entry)) (now («data» .entry)) (now (values .entry)) ⌝ }
+{
+    let lens = coding_descriptor::tag_length_table();
+    let ends = ends::stage_ends(tags, data, &lens);
+    let verdict = answers::data_verdict(
+        data.len(),
+        ends.read + ends.taken,
+        ends.copied,
+        ends.taken,
+    );
+    match verdict {
+        Verdict::Refused(why) => Counted::Refused(why),
+        Verdict::Accepted => {
+            let tag_len = coding_descriptor::tag_len();
+            let tag_max = coding_descriptor::tag_max();
+            Counted::Count(stages::decode_stages(tags, data, values, ends, &tag_len, &tag_max))
+        }
+    }
+}
+
+// The same, with values interpreted as deltas starting from initial.
+pub fn decode_deltas(initial: u32, tags: &[u8], data: &[u8], values: &mut [u32]) -> Counted
+    ensures { λ r. ⌜ decoded (counted r) (now (values .exit)) ≡ decodingDeltas t1234 m32 initial (now (tags .entry)) (now («data» .entry)) (now (values .entry)) ⌝ }
+{
+    let verdict = answers::count_verdict(values.len(), tags.len());
+    match verdict {
+        Verdict::Refused(why) => Counted::Refused(why),
+        Verdict::Accepted => decode_deltas_matching(initial, tags, data, values),
+    }
+}
+
+fn decode_deltas_matching(initial: u32, tags: &[u8], data: &[u8], values: &mut [u32]) -> Counted
+    requires { ⌜ firstOf t1234 (lentToDecode (length (now values)) (now tags) (length (now «data»))) countRows ≡ 0 ⌝ }
+    ensures { λ r. ⌜ decoded (counted r) (now (values .exit)) ≡ decodingDeltas t1234 m32 initial (now (tags .entry)) (now («data» .entry)) (now (values .entry)) ⌝ }
+{
+    let lens = coding_descriptor::tag_length_table();
+    let ends = ends::stage_ends(tags, data, &lens);
+    let verdict = answers::data_verdict(
+        data.len(),
+        ends.read + ends.taken,
+        ends.copied,
+        ends.taken,
+    );
+    match verdict {
+        Verdict::Refused(why) => Counted::Refused(why),
+        Verdict::Accepted => {
+            let tag_len = coding_descriptor::tag_len();
+            let tag_max = coding_descriptor::tag_max();
+            let ran = stages::decode_deltas_stages(
+                initial,
+                tags,
+                data,
+                values,
+                ends,
+                &tag_len,
+                &tag_max,
+            );
+            Counted::Count(ran.read)
+        }
+    }
+}
+
+// Returns the data length of all the groups encoded by tags.
+pub fn data_len(tags: &[u8]) -> Counted
+    ensures { λ r. ⌜ counted r ≡ measuring t1234 (now (tags .entry)) ⌝ }
+{
+    let verdict = answers::limit_verdict(tags.len());
+    match verdict {
+        Verdict::Refused(why) => Counted::Refused(why),
+        Verdict::Accepted => {
+            let lens = coding_descriptor::tag_length_table();
+            Counted::Count(ends::data_len_from(tags, 0, &lens))
+        }
+    }
+}
+
+// Skip deltas read from input tag and data streams. Returns the number of bytes consumed from the data stream and the sum of all
+// the deltas that were skipped.
+pub fn skip_deltas(tags: &[u8], data: &[u8]) -> Skipped32
+    ensures { λ r. ⌜ skipped32 r ≡ skipping t1234 m32 (now (tags .entry)) (now («data» .entry)) ⌝ }
+{
+    let verdict = answers::limit_verdict(tags.len());
+    match verdict {
+        Verdict::Refused(why) => Skipped32::Refused(why),
+        Verdict::Accepted => skip_deltas_limited(tags, data),
+    }
+}
+
+fn skip_deltas_limited(tags: &[u8], data: &[u8]) -> Skipped32
+    requires { ⌜ firstOf t1234 (lentToRead (now tags) (length (now «data»))) limitRow ≡ 0 ⌝ }
+    ensures { λ r. ⌜ skipped32 r ≡ skipping t1234 m32 (now (tags .entry)) (now («data» .entry)) ⌝ }
+{
+    let lens = coding_descriptor::tag_length_table();
+    let ends = ends::stage_ends(tags, data, &lens);
+    let verdict = answers::data_verdict(
+        data.len(),
+        ends.read + ends.taken,
+        ends.copied,
+        ends.taken,
+    );
+    match verdict {
+        Verdict::Refused(why) => Skipped32::Refused(why),
+        Verdict::Accepted => {
+            let tag_len = coding_descriptor::tag_len();
+            let tag_max = coding_descriptor::tag_max();
+            let ran = stages::skip_deltas_stages(tags, data, ends, &tag_len, &tag_max);
+            Skipped32::Read(ran.read, ran.sum)
+        }
+    }
+}
