@@ -12,3 +12,5 @@ pub mod Rows
 pub mod Columns
 pub mod Ends
 pub mod Runs
+pub mod Coders
+pub mod Encodes
