@@ -14,3 +14,4 @@ pub mod Ends
 pub mod Runs
 pub mod Coders
 pub mod Encodes
+pub mod Tight
