@@ -11,6 +11,7 @@ use Rattle.answers.specs.declared.Counted
 use Rattle.answers.specs.declared.Skipped32
 use Rattle.answers.specs.declared.Skipped64
 use Rattle.answers.specs.declared.Tightness
+use Rattle.answers.specs.declared.Place
 
 -- The row that a refusal names.
 abbrev pub rowOf : Refusal → Row
@@ -45,6 +46,10 @@ abbrev pub tested : Tightness.Tightness → Calls.Tightness
 tested (Tightness.Tightness.Refused r) = untested (refusalNumber r)
 tested Tightness.Tightness.Tight = Calls.tight
 tested (Tightness.Tightness.Loose g p) = Calls.loose g p
+
+abbrev pub placeOf : Place.Place → Calls.Tightness
+placeOf Place.Place.None = Calls.tight
+placeOf (Place.Place.At g p) = Calls.loose g p
 
 -- Which rows a check of counts looks at.
 abbrev pub countRows : List Row

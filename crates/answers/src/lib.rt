@@ -49,6 +49,12 @@ pub enum Tightness {
     Loose { group: usize, position: usize },
 }
 
+// What the search for a loose number finds, below the refusals: none, or the place of the first.
+pub enum Place {
+    None,
+    At { group: usize, position: usize },
+}
+
 const GROUP_LIMIT: usize = 16_777_216;
 
 // Rows 1 to 4, for encoding. widest is the count of bytes of the widest group.

@@ -8,8 +8,6 @@ ghost use Rattle.answers.specs.Meaning.{counted, skipped32, countRows, limitRow
 use answers::Counted;
 use answers::Skipped32;
 use answers::Verdict;
-use decode_impl1234::ends;
-use decode_impl1234::stages;
 use raw_group1234::coding_descriptor;
 
 // Decodes input tags and data streams to an output slice. Returns the number of bytes consumed from the data stream.
@@ -29,7 +27,7 @@ fn decode_matching(tags: &[u8], data: &[u8], values: &mut [u32]) -> Counted
     ensures { λ r. ⌜ decoded (counted r) (now (values .exit)) ≡ decoding t1234 (now (tags .entry)) (now («data» .entry)) (now (values .entry)) ⌝ }
 {
     let lens = coding_descriptor::tag_length_table();
-    let ends = ends::stage_ends(tags, data, &lens);
+    let ends = stage_ends1234::stage_ends(tags, data, &lens);
     let verdict = answers::data_verdict(
         data.len(),
         ends.read + ends.taken,
@@ -41,7 +39,7 @@ fn decode_matching(tags: &[u8], data: &[u8], values: &mut [u32]) -> Counted
         Verdict::Accepted => {
             let tag_len = coding_descriptor::tag_len();
             let tag_max = coding_descriptor::tag_max();
-            Counted::Count(stages::decode_stages(tags, data, values, ends, &tag_len, &tag_max))
+            Counted::Count(stages1234::decode_stages(tags, data, values, ends, &tag_len, &tag_max))
         }
     }
 }
@@ -62,7 +60,7 @@ fn decode_deltas_matching(initial: u32, tags: &[u8], data: &[u8], values: &mut [
     ensures { λ r. ⌜ decoded (counted r) (now (values .exit)) ≡ decodingDeltas t1234 m32 initial (now (tags .entry)) (now («data» .entry)) (now (values .entry)) ⌝ }
 {
     let lens = coding_descriptor::tag_length_table();
-    let ends = ends::stage_ends(tags, data, &lens);
+    let ends = stage_ends1234::stage_ends(tags, data, &lens);
     let verdict = answers::data_verdict(
         data.len(),
         ends.read + ends.taken,
@@ -74,7 +72,7 @@ fn decode_deltas_matching(initial: u32, tags: &[u8], data: &[u8], values: &mut [
         Verdict::Accepted => {
             let tag_len = coding_descriptor::tag_len();
             let tag_max = coding_descriptor::tag_max();
-            let ran = stages::decode_deltas_stages(
+            let ran = stages1234::decode_deltas_stages(
                 initial,
                 tags,
                 data,
@@ -97,7 +95,7 @@ pub fn data_len(tags: &[u8]) -> Counted
         Verdict::Refused(why) => Counted::Refused(why),
         Verdict::Accepted => {
             let lens = coding_descriptor::tag_length_table();
-            Counted::Count(ends::data_len_from(tags, 0, &lens))
+            Counted::Count(stage_ends1234::data_len_from(tags, 0, &lens))
         }
     }
 }
@@ -119,7 +117,7 @@ fn skip_deltas_limited(tags: &[u8], data: &[u8]) -> Skipped32
     ensures { λ r. ⌜ skipped32 r ≡ skipping t1234 m32 (now (tags .entry)) (now («data» .entry)) ⌝ }
 {
     let lens = coding_descriptor::tag_length_table();
-    let ends = ends::stage_ends(tags, data, &lens);
+    let ends = stage_ends1234::stage_ends(tags, data, &lens);
     let verdict = answers::data_verdict(
         data.len(),
         ends.read + ends.taken,
@@ -131,7 +129,7 @@ fn skip_deltas_limited(tags: &[u8], data: &[u8]) -> Skipped32
         Verdict::Accepted => {
             let tag_len = coding_descriptor::tag_len();
             let tag_max = coding_descriptor::tag_max();
-            let ran = stages::skip_deltas_stages(tags, data, ends, &tag_len, &tag_max);
+            let ran = stages1234::skip_deltas_stages(tags, data, ends, &tag_len, &tag_max);
             Skipped32::Read(ran.read, ran.sum)
         }
     }

@@ -12,3 +12,6 @@ pub mod Rows
 pub mod Columns
 pub mod Ends
 pub mod Runs
+pub mod Coders
+pub mod Encodes
+pub mod Tight

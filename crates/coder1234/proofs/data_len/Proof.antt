@@ -19,11 +19,11 @@ enum-known-verdict c = search needs
 enum-told : tie.Need-enum-told
 enum-told c = search needs
 
-tag-length-table-requires : tie.Need-tag-length-table-requires
-tag-length-table-requires c κs = search needs
+tag-length-table1234-requires : tie.Need-tag-length-table1234-requires
+tag-length-table1234-requires c κs = search needs
 
 data-len-from-requires : tie.Need-data-len-from-requires
-data-len-from-requires c κs = ((zero-le, limited t1234 (lentToRead (c .before .before .before .before .before .before .args .tags .now) 0) (accepts t1234 (lentToRead (c .before .before .before .before .before .before .args .tags .now) 0) limitRow [] (c .before .before .before .before .limit-verdict .ensures t1234 (lentToRead (c .before .before .before .before .before .before .args .tags .now) 0) refl) (c .before .before .enum-told .given .1))), c .before .tag-length-table .ensures)
+data-len-from-requires c κs = ((zero-le, limited t1234 (lentToRead (c .before .before .before .before .before .before .args .tags .now) 0) (accepts t1234 (lentToRead (c .before .before .before .before .before .before .args .tags .now) 0) limitRow [] (c .before .before .before .before .limit-verdict .ensures t1234 (lentToRead (c .before .before .before .before .before .before .args .tags .now) 0) refl) (c .before .before .enum-told .given .1))), c .before .tag-length-table1234 .ensures)
 
 returns : tie.Need-returns
 returns c = measuring-refused t1234 _ (c .before .verdict .given .0 .0) (refuses t1234 (lentToRead (c .before .before .before .before .before .args .tags .now) 0) limitRow [] (c .before .before .before .limit-verdict .ensures t1234 (lentToRead (c .before .before .before .before .before .args .tags .now) 0) refl) _ (c .before .verdict .given .1))
@@ -38,7 +38,7 @@ data-len-spec =
     limit-verdict-requires
     enum-known-verdict
     enum-told
-    tag-length-table-requires
+    tag-length-table1234-requires
     data-len-from-requires
     returns
     returns-2)
