@@ -1,20 +1,22 @@
 -- From the verdicts to the calls' definitions, over the width table t: what a call promises where a verdict refuses and where all accept.
 -- Assumes nothing.
-use mathlib.Core.Path.{_≡_, refl, ap, ap₂, sym, _∙_}
+use mathlib.Core.Path.{_≡_, refl, ap, ap₂, sym, _∙_, subst}
 use mathlib.Core.List.{List, [], _∷_, _++_, append-nil}
 use Prim.Native.Nat.{ℕ, zero, suc, pred, _+_, _*_, _/_, _%_, _≤_, _<_, max}
 use native.Mathlib.Nat.{zero-add}
 use native.Mathlib.Omega.{arith}
 use lib.ListN.{length, drop, drop-of-length-le}
 use lib.Seq.{sets, sets-eq, slice, take-length}
-use Rattle.packed.specs.Format.{total, dataLen, stored, walked, wrappingSum}
-use Rattle.packed.specs.Refusals.{Lent, Row, notFours, tooManyGroups, otherTags, missingData, tailOverrun, lentToEncode, lentToDecode, lentToRead, groupLimit, firstOf, encodingRows, decodingRows, skippingRows, tightnessRows, lengthRows}
-use Rattle.packed.specs.Calls.{Answer, accepted, refused, unlessRefused, decoded, decodingBy, skipping, measuring, testing, tightnessOf, untested}
-use Rattle.packed.specs.Column.{Ends, Runs, RunsDeltas, RunsSum, Measured}
+use Rattle.packed.specs.Format.{total, dataLen, stored, tagsOf, bytesOf, steps, walked, wrappingSum}
+use Rattle.packed.specs.Refusals.{Lent, Row, notFours, tooManyGroups, fewTags, littleRoom, otherTags, missingData, tailOverrun, lentToEncode, lentToDecode, lentToRead, groupLimit, firstOf, encodingRows, decodingRows, skippingRows, tightnessRows, lengthRows}
+use Rattle.packed.specs.Calls.{Answer, accepted, refused, unlessRefused, encoded, encoding, encodingDeltas, decoded, decodingBy, skipping, measuring, testing, tightnessOf, untested}
+use Rattle.packed.specs.Column.{Runs, RunsDeltas, RunsSum, RunsEncode, Measured}
 use Rattle.packed.specs.Stages.{widestGroup, tailTakes, tailCopied}
 use Rattle.packed.proofs.Columns.{stored-length}
-use Rattle.packed.proofs.Deltas.{walked-length}
-use Rattle.packed.proofs.Rows.{passed, first-passed, first-stands, fours, few-groups, matching-tags, enough-data, enough-copied}
+use Rattle.packed.proofs.Deltas.{steps-length, walked-length}
+use Rattle.packed.proofs.Encodes.{groups-most, encodes-all}
+use Rattle.packed.proofs.Ends.{Table}
+use Rattle.packed.proofs.Rows.{passed, first-passed, first-stands, fours, few-groups, enough-tags, enough-room, matching-tags, enough-data, enough-copied}
 use Rattle.answers.specs.declared.Refusal.{Refusal}
 use Rattle.answers.specs.declared.Refusal.the-variants.{NotFours, TooManyGroups, FewTags, LittleRoom, OtherTags, MissingData, TailOverrun}
 use Rattle.answers.specs.declared.Verdict.{Verdict}
@@ -96,7 +98,7 @@ filled values ns e =
     sets-eq ns values 0 (omega arith)
     ∙ ap (λ (l : List ℕ). ns ++ l) (drop-of-length-le values {i = 0 + length ns} (omega arith)) ∙ append-nil ns
 
-whole : (tags : List ℕ) → slice 0 (length tags) tags ≡ tags
+pub whole : (tags : List ℕ) → slice 0 (length tags) tags ≡ tags
 whole tags = take-length tags
 
 module _ (t tags bytes values after : List ℕ) (fours : 4 * length tags ≡ length values)
@@ -156,3 +158,69 @@ module _ (t tags : List ℕ) where
   measured-all {r} e x =
       ap (λ (n : ℕ). accepted n 0) (x .len ∙ ap (dataLen t) (whole tags))
       ∙ sym (ap (λ (n : ℕ). unlessRefused n (accepted (dataLen t tags) 0) (refused n)) e)
+
+-- ---- encoding
+
+module _ (t values tags bytes : List ℕ) where
+  -- what encoding was lent
+  abbrev pub lent-encode : Lent
+  lent-encode = lentToEncode (length values) tags (length bytes)
+
+  pub encoding-refused : (why : Refusal) → firstOf t lent-encode encodingRows ≡ refusalNumber why
+      → encoded (refused (refusalNumber why)) tags bytes ≡ encoding t values tags bytes
+  unfolding encoding
+  encoding-refused why e = sym (unless-refused _ why _ _ e ∙ ap (λ (n : ℕ). encoded (refused n) tags bytes) e)
+
+  -- where no row applies there are whole groups, within the limit, with tags and room for each
+  pub allowed : firstOf t lent-encode encodingRows ≡ 0
+      → (4 * (length values / 4) ≡ length values) × (length values / 4 ≤ groupLimit) × (length values / 4 ≤ length tags)
+      × (widestGroup t * (length values / 4) ≤ length bytes)
+  allowed e =
+      let one = passed t lent-encode notFours (tooManyGroups ∷ fewTags ∷ littleRoom ∷ []) e in
+      let two = passed t lent-encode tooManyGroups (fewTags ∷ littleRoom ∷ []) (one .1) in
+      let three = passed t lent-encode fewTags (littleRoom ∷ []) (two .1) in
+      let four = passed t lent-encode littleRoom [] (three .1) in (
+        omega (arith, fours t lent-encode (one .0)),
+        few-groups t lent-encode (two .0),
+        enough-tags t lent-encode (three .0),
+        enough-room t lent-encode (four .0),
+      )
+
+  pub encoded-all : (is : Table t) {written : ℕ} {tags′ bytes′ : List ℕ} → firstOf t lent-encode encodingRows ≡ 0
+      → RunsEncode t values tags bytes (length values / 4) written tags′ bytes′ → encoded (accepted written 0) tags′ bytes′ ≡ encoding t values tags bytes
+  unfolding encoding
+  encoded-all is {written} {tags′} {bytes′} e x =
+      let a = allowed e in
+      let n : ℕ = length values / 4 in
+      let few : length (bytesOf t values) ≤ length bytes = omega (arith, groups-most t is n values (omega (arith, a .0)), a .3) in
+      let all = encodes-all t is x (a .0) (a .2) few in
+      ap₂ (λ (w : ℕ) (l : List ℕ). encoded (accepted w 0) l bytes′) (all .written-is) (all .tags-are)
+      ∙ ap (encoded (accepted (length (bytesOf t values)) 0) (tagsOf t n values ++ drop n tags)) (all .bytes-are)
+      ∙ sym (ap (λ (k : ℕ). unlessRefused k
+      (encoded (accepted (length (bytesOf t values)) 0) (tagsOf t n values ++ drop n tags) (bytesOf t values ++ drop (length (bytesOf t values)) bytes))
+      (encoded (refused k) tags bytes)) e)
+
+-- the same of the steps, whose count is that of the values
+pub encoded-deltas-all : (t : List ℕ) (is : Table t) (m p : ℕ) (values tags bytes : List ℕ) {written : ℕ} {tags′ bytes′ : List ℕ}
+    → firstOf t (lentToEncode (length (steps m p values)) tags (length bytes)) encodingRows ≡ 0
+    → RunsEncode t (steps m p values) tags bytes (length values / 4) written tags′ bytes′
+    → encoded (accepted written 0) tags′ bytes′ ≡ encodingDeltas t m p values tags bytes
+encoded-deltas-all t is m p values tags bytes {written} {tags′} {bytes′} e x =
+    encoded-all t (steps m p values) tags bytes is e
+    (subst (λ (n : ℕ). RunsEncode t (steps m p values) tags bytes n written tags′ bytes′) (sym (ap (λ (n : ℕ). n / 4) (steps-length m p values))) x)
+
+-- ---- tightness
+
+module _ (t tags bytes : List ℕ) where
+  pub testing-refused : (why : Refusal) → firstOf t (lentToRead tags (length bytes)) tightnessRows ≡ refusalNumber why
+      → untested (refusalNumber why) ≡ testing t tags bytes
+  unfolding testing
+  testing-refused why e = sym (unless-refused _ why _ _ e ∙ ap untested e)
+
+  pub tested-all : firstOf t (lentToRead tags (length bytes)) tightnessRows ≡ 0 → tightnessOf t tags bytes ≡ testing t tags bytes
+  unfolding testing
+  tested-all e = sym (ap (λ (n : ℕ). unlessRefused n (tightnessOf t tags bytes) (untested n)) e)
+
+-- where row 6 does not apply
+pub data-there : (t : List ℕ) (l : Lent) → firstOf t l missingRow ≡ 0 → dataLen t (l .tags) ≤ l .bytes
+data-there t l e = enough-data t l (passed t l missingData [] e .0)

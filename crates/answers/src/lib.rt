@@ -6,7 +6,7 @@ ghost use lib.ListN.{length};
 ghost use Rattle.packed.specs.Format.{dataLen};
 ghost use Rattle.packed.specs.Stages.{widestGroup, tailTakes, tailCopied};
 ghost use Rattle.packed.specs.Refusals.{Lent, Row, firstOf, encodingRows};
-ghost use Rattle.answers.specs.Meaning.{verdictNumber, countRows, dataRows, limitRow, missingRow};
+ghost use Rattle.answers.specs.Meaning.{verdictNumber, tested, placeOf, countRows, dataRows, limitRow, missingRow};
 
 // Why a call refused: the rows of the refusal table, in order.
 pub enum Refusal {
@@ -53,6 +53,16 @@ pub enum Tightness {
 pub enum Place {
     None,
     At { group: usize, position: usize },
+}
+
+// The tightness check's answer, where nothing was refused.
+pub fn placed(place: Place) -> Tightness
+    ensures { λ r. ⌜ tested r ≡ placeOf place ⌝ }
+{
+    match place {
+        Place::None => Tightness::Tight,
+        Place::At { group, position } => Tightness::Loose { group, position },
+    }
 }
 
 const GROUP_LIMIT: usize = 16_777_216;

@@ -3,12 +3,46 @@ ghost use mathlib.Core.Path.{_≡_};
 ghost use lib.ListN.{length};
 ghost use Rattle.packed.specs.Format.{t1234, m32};
 ghost use Rattle.packed.specs.Refusals.{lentToDecode, lentToRead, firstOf};
-ghost use Rattle.packed.specs.Calls.{decoded, decoding, decodingDeltas, skipping, measuring};
-ghost use Rattle.answers.specs.Meaning.{counted, skipped32, countRows, limitRow};
+ghost use Rattle.packed.specs.Calls.{encoded, encoding, encodingDeltas, decoded, decoding, decodingDeltas, skipping, measuring, testing};
+ghost use Rattle.answers.specs.Meaning.{counted, skipped32, tested, countRows, limitRow};
 use answers::Counted;
 use answers::Skipped32;
+use answers::Tightness;
 use answers::Verdict;
 use raw_group1234::coding_descriptor;
+
+// Encodes a slice of values, writing tags and data to separate streams. Returns the number of bytes written to the data stream.
+pub fn encode(values: &[u32], tags: &mut [u8], data: &mut [u8]) -> Counted
+    ensures { λ r. ⌜ encoded (counted r) (now (tags .exit)) (now («data» .exit)) ≡ encoding t1234 (now (values .entry)) (now (tags .entry)) (now («data» .entry)) ⌝ }
+{
+    let verdict = answers::encode_verdict(values.len(), tags.len(), data.len(), 16);
+    match verdict {
+        Verdict::Refused(why) => Counted::Refused(why),
+        Verdict::Accepted => Counted::Count(encode_impl1234::encode_groups(
+            values,
+            values.len() / 4,
+            tags,
+            data,
+        )),
+    }
+}
+
+// The same, with values interpreted as deltas starting from initial.
+pub fn encode_deltas(initial: u32, values: &[u32], tags: &mut [u8], data: &mut [u8]) -> Counted
+    ensures { λ r. ⌜ encoded (counted r) (now (tags .exit)) (now («data» .exit)) ≡ encodingDeltas t1234 m32 initial (now (values .entry)) (now (tags .entry)) (now («data» .entry)) ⌝ }
+{
+    let verdict = answers::encode_verdict(values.len(), tags.len(), data.len(), 16);
+    match verdict {
+        Verdict::Refused(why) => Counted::Refused(why),
+        Verdict::Accepted => Counted::Count(encode_impl1234::encode_deltas_groups(
+            initial,
+            values,
+            values.len() / 4,
+            tags,
+            data,
+        )),
+    }
+}
 
 // Decodes input tags and data streams to an output slice. Returns the number of bytes consumed from the data stream.
 pub fn decode(tags: &[u8], data: &[u8], values: &mut [u32]) -> Counted
@@ -131,6 +165,33 @@ fn skip_deltas_limited(tags: &[u8], data: &[u8]) -> Skipped32
             let tag_max = coding_descriptor::tag_max();
             let ran = stages1234::skip_deltas_stages(tags, data, ends, &tag_len, &tag_max);
             Skipped32::Read(ran.read, ran.sum)
+        }
+    }
+}
+
+// Whether each number is stored at its shortest width, or the place of the first that is not. The Rust has no such check.
+pub fn tightness(tags: &[u8], data: &[u8]) -> Tightness
+    ensures { λ r. ⌜ tested r ≡ testing t1234 (now (tags .entry)) (now («data» .entry)) ⌝ }
+{
+    let verdict = answers::limit_verdict(tags.len());
+    match verdict {
+        Verdict::Refused(why) => Tightness::Refused(why),
+        Verdict::Accepted => tightness_limited(tags, data),
+    }
+}
+
+fn tightness_limited(tags: &[u8], data: &[u8]) -> Tightness
+    requires { ⌜ firstOf t1234 (lentToRead (now tags) (length (now «data»))) limitRow ≡ 0 ⌝ }
+    ensures { λ r. ⌜ tested r ≡ testing t1234 (now (tags .entry)) (now («data» .entry)) ⌝ }
+{
+    let lens = coding_descriptor::tag_length_table();
+    let total = stage_ends1234::data_len_from(tags, 0, &lens);
+    let verdict = answers::missing_verdict(data.len(), total);
+    match verdict {
+        Verdict::Refused(why) => Tightness::Refused(why),
+        Verdict::Accepted => {
+            let tag_len = coding_descriptor::tag_len();
+            answers::placed(tightness1234::first_loose(tags, data, &tag_len))
         }
     }
 }

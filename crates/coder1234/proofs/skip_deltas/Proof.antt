@@ -4,7 +4,7 @@ use mathlib.Core.Path.{refl}
 use lib.ListN.{length}
 use borrow.Author.Needs.{needs}
 use Rattle.packed.specs.Format.{t1234, m32}
-use Rattle.packed.specs.Refusals.{lentToRead}
+use Rattle.packed.specs.Refusals.{Lent, lentToRead}
 use Rattle.answers.proofs.Calls.{refuses, accepts, skipping-refused}
 use Rattle.answers.specs.Meaning.{limitRow, dataRows}
 use Rattle.coder1234.proofs.skip_deltas.Statement.{statement}
@@ -20,10 +20,18 @@ enum-told : tie.Need-enum-told
 enum-told c = search needs
 
 skip-deltas-limited-requires : tie.Need-skip-deltas-limited-requires
-skip-deltas-limited-requires c κs = accepts t1234 (lentToRead (c .before .before .before .before .before .args .tags .now) (length (c .before .before .before .before .before .args .«data» .now))) limitRow [] (c .before .before .limit-verdict .ensures t1234 (lentToRead (c .before .before .before .before .before .args .tags .now) (length (c .before .before .before .before .before .args .«data» .now))) refl) (c .enum-told .given .1)
+skip-deltas-limited-requires c κs =
+    let a = c .before .before .before .before .before .args in
+    let l : Lent = lentToRead (a .tags .now) (length (a .«data» .now)) in
+    let says = c .before .before .limit-verdict .ensures t1234 l refl in
+    accepts t1234 l limitRow [] says (c .enum-told .given .1)
 
 returns : tie.Need-returns
-returns c = skipping-refused t1234 _ _ m32 (c .before .verdict .given .0 .0) (refuses t1234 (lentToRead (c .before .before .before .before .before .before .args .tags .now) (length (c .before .before .before .before .before .before .args .«data» .now))) limitRow dataRows (c .before .before .before .limit-verdict .ensures t1234 (lentToRead (c .before .before .before .before .before .before .args .tags .now) (length (c .before .before .before .before .before .before .args .«data» .now))) refl) _ (c .before .verdict .given .1))
+returns c =
+    let a = c .before .before .before .before .before .before .args in
+    let l : Lent = lentToRead (a .tags .now) (length (a .«data» .now)) in
+    let says = c .before .before .before .limit-verdict .ensures t1234 l refl in
+    skipping-refused t1234 _ _ m32 (c .before .verdict .given .0 .0) (refuses t1234 l limitRow dataRows says _ (c .before .verdict .given .1))
 
 returns-2 : tie.Need-returns-2
 returns-2 c = c .skip-deltas-limited .ensures
