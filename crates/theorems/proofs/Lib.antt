@@ -6,3 +6,4 @@ pub mod Tightness
 pub mod MoreMaterial
 pub mod OneOutcome
 pub mod Coders
+pub mod Witnesses
