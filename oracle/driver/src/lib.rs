@@ -1,0 +1,14 @@
+//! The published crate, a plain model and (with the feature `port`) the port, behind one trait,
+//! so that a program can feed all of them the same input.
+
+pub mod cases;
+pub mod engine;
+pub mod guard;
+pub mod hex;
+pub mod layout;
+pub mod plain;
+#[cfg(feature = "port")]
+pub mod port;
+pub mod published;
+pub mod random;
+pub mod request;
