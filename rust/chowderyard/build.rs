@@ -26,6 +26,8 @@ fn main() {
             library.display()
         ));
     }
+    // rustc may run in another folder than this script does
+    let folder = folder.canonicalize().unwrap_or(folder);
     println!("cargo:rustc-link-search=native={}", folder.display());
     println!("cargo:rustc-link-lib=static=chowderyard");
 }

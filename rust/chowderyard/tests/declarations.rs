@@ -138,28 +138,44 @@ fn the_answers_have_the_same_fields_everywhere() {
     }
 }
 
+/// The package declares each call once, with the number's type left open, and names the functions of each coder in the
+/// order of the calls.
 #[test]
-fn the_package_names_each_exported_function_once_in_its_place() {
+fn the_package_declares_each_exported_function() {
     let own = text("rust/chowderyard/src/library.rs");
-    let calls = [
-        "encode",
-        "encode_deltas",
-        "decode",
-        "decode_deltas",
-        "data_len",
-        "skip_deltas",
-        "tightness",
-    ];
-    let exported = exported();
+    let declarations: Vec<_> = between(&own, "extern \"C\" {", "}")
+        .split(';')
+        .map(words)
+        .filter(|d| !d.is_empty())
+        .collect();
+    let mut declared = BTreeMap::new();
     for (coder, elem) in [("1234", "u32"), ("0124", "u32"), ("1248", "u64")] {
-        let names: Vec<_> = calls
-            .iter()
-            .map(|call| format!("chowder_{call}_{coder}"))
-            .collect();
-        assert!(names.iter().all(|name| exported.contains_key(name)));
-        let given = words(between(&own, &format!("Coder{coder}, {elem},"), "}"));
-        assert_eq!(given, names.join(", "));
+        let names = words(between(&own, &format!("Coder{coder}, {elem},"), "}"));
+        let names: Vec<_> = names.split(", ").collect();
+        assert_eq!(names.len(), declarations.len());
+        for (name, declaration) in names.iter().zip(&declarations) {
+            let call = between(declaration, "fn $", "(");
+            assert_eq!(*name, format!("chowder_{call}_{coder}"));
+            let parameters: Vec<_> = between(declaration, "(", ")")
+                .split(',')
+                .map(words)
+                .filter(|p| !p.is_empty())
+                .map(|p| {
+                    let (p, kind) = p.split_once(": ").unwrap();
+                    match kind.replace("$elem", elem).split_once(' ') {
+                        Some(("*const", kind)) => format!("const {} *{p}", number(kind)),
+                        Some((_, kind)) => format!("{} *{p}", number(kind)),
+                        None if kind == "usize" => format!("size_t {p}"),
+                        None => format!("{} {p}", number(elem)),
+                    }
+                })
+                .collect();
+            let answer = declaration.split("-> ").nth(1).unwrap();
+            let whole = format!("{} {name}({})", structure(answer), parameters.join(", "));
+            declared.insert(name.to_string(), whole);
+        }
     }
+    assert_eq!(declared, exported());
 }
 
 #[test]
