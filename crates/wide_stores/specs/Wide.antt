@@ -2,7 +2,7 @@
 -- own is covered by the number behind it, so that only what lies behind the last one is not as it was: n bytes at most.
 use mathlib.Core.Path.{_≡_}
 use mathlib.Core.List.{List, _++_}
-use Prim.Native.Nat.{ℕ, zero, suc, _+_, _*_, _/_, _^_, _≤_, _<_}
+use Prim.Native.Nat.{ℕ, zero, suc, _+_, _-_, _*_, _/_, _^_, _≤_, _<_}
 use lib.Count.{leadingZeros}
 use lib.ListN.{length, take, drop, getD}
 use lib.Seq.{sets}
@@ -47,3 +47,8 @@ pub record RunsWide (t : List ℕ) (n : ℕ) (ds tags bytes : List ℕ) (groups 
 pub record RunsWideSteps (t : List ℕ) (n m p : ℕ) (values tags bytes : List ℕ) (groups r-written r-last : ℕ) (tags′ bytes′ : List ℕ) : Type 0 where
   pub runs : RunsWide t n (steps m p values) tags bytes groups r-written tags′ bytes′
   pub left : steps m r-last (drop (4 * groups) values) ≡ drop (4 * groups) (steps m p values)
+
+-- Where a run by whole words may end: what it leaves is covered by the groups behind it.
+pub record Covers (t : List ℕ) (n : ℕ) (ds : List ℕ) (groups front : ℕ) : Type 0 where
+  pub inside : front ≤ groups
+  pub covered : excess n front ≤ length (bytesOf t (take (4 * (groups - front)) (drop (4 * front) ds)))

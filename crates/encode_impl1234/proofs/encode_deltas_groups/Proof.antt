@@ -3,7 +3,7 @@ use mathlib.Core.Path.{ap, _∙_}
 use Prim.Native.Nat.{_*_}
 use native.Mathlib.Omega.{arith}
 use lib.Dec.{lit≤, lit<}
-use lib.ListN.{getD, length-take, length-drop}
+use lib.ListN.{getD}
 use borrow.Author.Needs.{needs}
 use Rattle.packed.specs.Format.{t1234, m32, steps}
 use Rattle.packed.proofs.Coders.{table1234}
@@ -58,7 +58,7 @@ part-encode-deltas-exactly-end-3 : tie.Need-part-encode-deltas-exactly-end-3
 part-encode-deltas-exactly-end-3 c = search needs
 
 encode-deltas-exactly-requires : tie.Need-encode-deltas-exactly-requires
-encode-deltas-exactly-requires c κs = simp (length-take, length-drop) (search needs)
+encode-deltas-exactly-requires c κs = search needs
 
 add-result : tie.Need-add-result
 add-result c = omega (arith, exact-most t1234 table1234 (c .before .before .before .before .encode-deltas-exactly .ensures))

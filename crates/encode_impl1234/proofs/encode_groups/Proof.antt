@@ -2,7 +2,6 @@
 use Prim.Native.Nat.{_*_}
 use native.Mathlib.Omega.{arith}
 use lib.Dec.{lit≤, lit<}
-use lib.ListN.{length-take, length-drop}
 use mir.Syntax.{w32}
 use borrow.Author.Needs.{needs}
 use Rattle.packed.specs.Format.{t1234}
@@ -55,7 +54,7 @@ part-encode-exactly-end-3 : tie.Need-part-encode-exactly-end-3
 part-encode-exactly-end-3 c = search needs
 
 encode-exactly-requires : tie.Need-encode-exactly-requires
-encode-exactly-requires c κs = simp (length-take, length-drop) (search needs)
+encode-exactly-requires c κs = search needs
 
 add-result : tie.Need-add-result
 add-result c = omega (arith, exact-most t1234 table1234 (c .before .before .before .before .encode-exactly .ensures))
