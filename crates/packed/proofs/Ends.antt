@@ -25,7 +25,7 @@ abbrev pub allGe : ℕ → List ℕ → Bool
 allGe w [] = true
 allGe w (x ∷ xs) = both (leb w x) (allGe w xs)
 
-at-least : (w : ℕ) (t : List ℕ) → T (allGe w t) → (f : ℕ) → f < length t → w ≤ getD t f 0
+pub at-least : (w : ℕ) (t : List ℕ) → T (allGe w t) → (f : ℕ) → f < length t → w ≤ getD t f 0
 at-least w [] h f k = absurd (not-suc-le-zero k)
 at-least w (x ∷ xs) h zero k = leb→le w x (both-left (leb w x) (allGe w xs) h)
 at-least w (x ∷ xs) h (suc f) k = at-least w xs (both-right (leb w x) (allGe w xs) h) f (le-of-suc-le-suc k)

@@ -1,8 +1,8 @@
 -- `load_group` meets its contract: the next four. Assumes nothing.
 use borrow.Author.Needs.{needs}
 use Rattle.packed.proofs.Encodes.{four-taken}
-use Rattle.encode_impl1248.proofs.load_group.Statement.{statement}
-use Rattle.encode_impl1248.proofs.load_group.Tie as tie
+use Rattle.fast_encode1234.proofs.load_group.Statement.{statement}
+use Rattle.fast_encode1234.proofs.load_group.Tie as tie
 
 mul-t3 : tie.Need-mul-t3
 mul-t3 c = search needs
