@@ -1,7 +1,7 @@
 #!/usr/bin/env python3
 """Records answers of the published crate in a file that a program without Rust can replay.
 
-    oracle/record.py [FILE]             ask the crate and write FILE (default: oracle/answers.bin)
+    oracle/record.py [FILE]             ask the crate and write FILE (default: crates/recorded/data/answers.bin)
     oracle/record.py --check [FILE]     ask the crate again; FILE must be the same byte for byte
     oracle/record.py --replay [FILE]    replay FILE with the model (model.py); no Rust is needed
     oracle/record.py --list [FILE]      one line for each record
@@ -312,7 +312,7 @@ def main():
     if how not in ("", "--check", "--replay", "--list", "--spoil") or len(words) > 1:
         print(__doc__.split("\n\n")[1], file=sys.stderr)
         sys.exit(2)
-    path = words[0] if words else os.path.join(HERE, "answers.bin")
+    path = words[0] if words else os.path.join(os.path.dirname(HERE), "crates", "recorded", "data", "answers.bin")
     if how == "":
         raw = made()
         with open(path, "wb") as f:
