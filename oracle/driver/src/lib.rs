@@ -5,6 +5,9 @@
 pub mod cases;
 #[cfg(feature = "clibrary")]
 pub mod clibrary;
+// A copy of rust/chowderyard/src/declarations.rs, put here by oracle/build.
+#[cfg(feature = "port")]
+mod declarations;
 pub mod engine;
 pub mod guard;
 pub mod hex;

@@ -7,7 +7,9 @@ use std::process::{Command, Output};
 /// The program, under Cargo's runner where there is one: on another processor than x86-64 that is an emulator.
 fn program() -> Command {
     let runner = std::env::var("CARGO_TARGET_X86_64_UNKNOWN_LINUX_GNU_RUNNER").unwrap_or_default();
-    let mut words = runner.split_whitespace().chain([env!("CARGO_BIN_EXE_chowderyard")]);
+    let mut words = runner
+        .split_whitespace()
+        .chain([env!("CARGO_BIN_EXE_chowderyard")]);
     let mut command = Command::new(words.next().expect("the program at least"));
     command.args(words);
     command
