@@ -1,24 +1,8 @@
 //! The port, through its C boundary: a slice is a pointer and a length, the answer comes by value.
 
+use crate::declarations::*;
 use crate::engine::{Engine, Outcome, Tightness};
 use crate::layout::Layout;
-
-#[repr(C)]
-#[derive(Clone, Copy)]
-pub struct Answer {
-    pub number: u8,
-    pub count: u64,
-    pub sum: u64,
-}
-
-#[repr(C)]
-#[derive(Clone, Copy)]
-pub struct TightAnswer {
-    pub number: u8,
-    pub loose: u8,
-    pub group: u64,
-    pub position: u8,
-}
 
 /// The seven functions of one coder.
 pub struct Calls<E> {
@@ -28,37 +12,12 @@ pub struct Calls<E> {
     decode_deltas: unsafe extern "C" fn(E, *const u8, usize, *const u8, usize, *mut E, usize) -> Answer,
     data_len: unsafe extern "C" fn(*const u8, usize) -> Answer,
     skip_deltas: unsafe extern "C" fn(*const u8, usize, *const u8, usize) -> Answer,
-    tightness: unsafe extern "C" fn(*const u8, usize, *const u8, usize) -> TightAnswer,
+    tightness: unsafe extern "C" fn(*const u8, usize, *const u8, usize) -> TightnessAnswer,
 }
 
 macro_rules! calls {
     ($name:ident, $elem:ty, $encode:ident, $encode_deltas:ident, $decode:ident,
      $decode_deltas:ident, $data_len:ident, $skip_deltas:ident, $tightness:ident) => {
-        extern "C" {
-            fn $encode(v: *const $elem, vn: usize, t: *mut u8, tn: usize, d: *mut u8, dn: usize) -> Answer;
-            fn $encode_deltas(
-                start: $elem,
-                v: *const $elem,
-                vn: usize,
-                t: *mut u8,
-                tn: usize,
-                d: *mut u8,
-                dn: usize,
-            ) -> Answer;
-            fn $decode(t: *const u8, tn: usize, d: *const u8, dn: usize, v: *mut $elem, vn: usize) -> Answer;
-            fn $decode_deltas(
-                start: $elem,
-                t: *const u8,
-                tn: usize,
-                d: *const u8,
-                dn: usize,
-                v: *mut $elem,
-                vn: usize,
-            ) -> Answer;
-            fn $data_len(t: *const u8, tn: usize) -> Answer;
-            fn $skip_deltas(t: *const u8, tn: usize, d: *const u8, dn: usize) -> Answer;
-            fn $tightness(t: *const u8, tn: usize, d: *const u8, dn: usize) -> TightAnswer;
-        }
         pub const $name: Calls<$elem> = Calls {
             encode: $encode,
             encode_deltas: $encode_deltas,

@@ -4,6 +4,17 @@ use std::fs;
 use std::path::{Path, PathBuf};
 use std::process::{Command, Output};
 
+/// The program, under Cargo's runner where there is one: on another processor than x86-64 that is an emulator.
+fn program() -> Command {
+    let runner = std::env::var("CARGO_TARGET_X86_64_UNKNOWN_LINUX_GNU_RUNNER").unwrap_or_default();
+    let mut words = runner
+        .split_whitespace()
+        .chain([env!("CARGO_BIN_EXE_chowderyard")]);
+    let mut command = Command::new(words.next().expect("the program at least"));
+    command.args(words);
+    command
+}
+
 /// A folder of its own for each test, empty at the start.
 struct Folder(PathBuf);
 
@@ -39,7 +50,7 @@ impl Folder {
             status,
             stdout,
             stderr,
-        } = Command::new(env!("CARGO_BIN_EXE_chowderyard"))
+        } = program()
             .args(line.split_whitespace())
             .current_dir(&self.0)
             .output()

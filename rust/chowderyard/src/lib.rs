@@ -93,6 +93,7 @@ use std::fmt::{Debug, Display};
 use std::hash::Hash;
 use std::mem::size_of;
 
+mod declarations;
 mod library;
 mod refusal;
 

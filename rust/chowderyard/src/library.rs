@@ -1,25 +1,11 @@
-//! The one place that declares the library's C functions, and the coders over them.
+//! The coders over the library's C functions.
 //!
 //! A slice goes over as its pointer and its length. The library asks nothing else of a caller: it tests every count
 //! itself, before it reads or writes. Rust's borrow rules give what C callers must see to: each pointer is valid and
 //! aligned, and a buffer that is written overlaps no other.
 
+use crate::declarations::*;
 use crate::{Coder, Refusal, Tightness, GROUP_LIMIT};
-
-#[repr(C)]
-struct Answer {
-    number: u8,
-    count: u64,
-    sum: u64,
-}
-
-#[repr(C)]
-struct TightnessAnswer {
-    number: u8,
-    loose: u8,
-    group: u64,
-    position: u8,
-}
 
 /// What a call was lent: enough to say in a refusal what was wanted.
 struct Lent {
@@ -74,40 +60,6 @@ macro_rules! coder {
         $encode:ident, $encode_deltas:ident, $decode:ident, $decode_deltas:ident,
         $data_len:ident, $skip_deltas:ident, $tightness:ident
     ) => {
-        extern "C" {
-            fn $encode(
-                values: *const $elem, values_len: usize,
-                tags: *mut u8, tags_len: usize,
-                data: *mut u8, data_len: usize,
-            ) -> Answer;
-            fn $encode_deltas(
-                start: $elem,
-                values: *const $elem, values_len: usize,
-                tags: *mut u8, tags_len: usize,
-                data: *mut u8, data_len: usize,
-            ) -> Answer;
-            fn $decode(
-                tags: *const u8, tags_len: usize,
-                data: *const u8, data_len: usize,
-                values: *mut $elem, values_len: usize,
-            ) -> Answer;
-            fn $decode_deltas(
-                start: $elem,
-                tags: *const u8, tags_len: usize,
-                data: *const u8, data_len: usize,
-                values: *mut $elem, values_len: usize,
-            ) -> Answer;
-            fn $data_len(tags: *const u8, tags_len: usize) -> Answer;
-            fn $skip_deltas(
-                tags: *const u8, tags_len: usize,
-                data: *const u8, data_len: usize,
-            ) -> Answer;
-            fn $tightness(
-                tags: *const u8, tags_len: usize,
-                data: *const u8, data_len: usize,
-            ) -> TightnessAnswer;
-        }
-
         $(#[$doc])*
         #[derive(Clone, Copy, Debug, Default, PartialEq, Eq, Hash)]
         pub struct $name(());

@@ -118,12 +118,13 @@ fn fields(source: &str, name: &str) -> Vec<(String, String)> {
 #[test]
 fn the_answers_have_the_same_fields_everywhere() {
     let source = text("crates/chowderyard/src/lib.rt");
-    let own = text("rust/chowderyard/src/library.rs");
+    let own = text("rust/chowderyard/src/declarations.rs");
     let header = without_comments(&text("include/chowderyard.h"));
     for name in ["Answer", "TightnessAnswer"] {
         let want = fields(&source, name);
         assert!(source.contains(&format!("#[repr(C)]\npub struct {name} {{")));
-        assert!(own.contains(&format!("#[repr(C)]\nstruct {name} {{")));
+        let layout = "#[repr(C)]\n#[derive(Clone, Copy)]\n";
+        assert!(own.contains(&format!("{layout}pub struct {name} {{")));
         assert_eq!(fields(&own, name), want);
         let in_c: Vec<_> = between(&header, &format!("struct {} {{", structure(name)), "}")
             .split(';')
@@ -142,15 +143,17 @@ fn the_answers_have_the_same_fields_everywhere() {
 /// order of the calls.
 #[test]
 fn the_package_declares_each_exported_function() {
-    let own = text("rust/chowderyard/src/library.rs");
+    let own = text("rust/chowderyard/src/declarations.rs");
     let declarations: Vec<_> = between(&own, "extern \"C\" {", "}")
         .split(';')
         .map(words)
         .filter(|d| !d.is_empty())
         .collect();
     let mut declared = BTreeMap::new();
-    for (coder, elem) in [("1234", "u32"), ("0124", "u32"), ("1248", "u64")] {
-        let names = words(between(&own, &format!("Coder{coder}, {elem},"), "}"));
+    let coders = [("1234", "u32"), ("0124", "u32"), ("1248", "u64")];
+    let mut declares = own.split("declare! {").skip(1);
+    for (coder, elem) in coders {
+        let names = words(between(declares.next().unwrap(), &format!("{elem},"), "}"));
         let names: Vec<_> = names.split(", ").collect();
         assert_eq!(names.len(), declarations.len());
         for (name, declaration) in names.iter().zip(&declarations) {
@@ -175,7 +178,19 @@ fn the_package_declares_each_exported_function() {
             declared.insert(name.to_string(), whole);
         }
     }
+    assert!(declares.next().is_none());
     assert_eq!(declared, exported());
+}
+
+/// The oracle's driver has no declarations of its own.
+#[test]
+fn nothing_else_declares_them() {
+    for path in [
+        "rust/chowderyard/src/library.rs",
+        "oracle/driver/src/port.rs",
+    ] {
+        assert!(!text(path).contains("extern \"C\" {"), "{path}");
+    }
 }
 
 #[test]

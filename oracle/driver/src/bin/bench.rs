@@ -1,11 +1,12 @@
-//! Times the port beside the published crate, in one process, on the same columns.
+//! Times the port beside the published crate, in one process, on the same columns; and beside the decoders of the C library, if that is linked.
 //!
 //!     bench [--values N] [--rounds N] [--growth]
 //!
 //! Columns: drop-frame labels (steps of one, three at nine minutes of ten), byte offsets of frames, and numbers of evenly mixed
-//! widths (for the calls with deltas and for skipping the steps are). Both engines' results are compared before anything is timed. The
-//! rounds alternate, each engine first by turns, and the best of each is kept. --growth times the port's delta decode of labels from 1
-//! thousand to 64 million values.
+//! widths (for the calls with deltas and for skipping the steps are). What each engine answers and leaves is compared with the column before
+//! anything is timed. The rounds alternate, each engine first by turns, and the best of each is kept. --growth times encoding and both
+//! ways of decoding of labels from 1 thousand to 64 million values; the largest columns take 3 GB. Under an emulator the times are the
+//! emulator's, and say nothing of a processor's.
 
 use oracle_driver::cases::packed;
 use oracle_driver::engine::{Engine, Outcome};
@@ -87,58 +88,103 @@ fn call<L: Layout, N: Engine>(
     }
 }
 
-/// Nanoseconds a value: the crate's and the port's best.
-fn time<L: Layout>(which: Call, numbers: &[u64], rounds: usize) -> (f64, f64) {
-    let n = numbers.len();
-    let start = L::Elem::from_u64(0);
-    let deltas = matches!(which, Call::EncodeDeltas | Call::DecodeDeltas | Call::SkipDeltas);
-    let values: Vec<L::Elem> = numbers.iter().map(|&v| L::Elem::from_u64(v)).collect();
-    let how = if deltas { Call::EncodeDeltas } else { Call::Encode };
-    let (tags, packed_data) = packed::<L>(how, start, &values);
-    let used = packed_data.len();
-    let mut data = vec![0_u8; L::GROUP * n / 4];
-    data[..used].copy_from_slice(&packed_data);
-    let mut sides = [(values.clone(), tags.clone(), data.clone()), (values, tags, data)];
-    let mut best = [f64::MAX; 2];
-    let mut answers = [(0, 0); 2];
-    for round in 0..rounds {
-        for turn in 0..2 {
-            let side = (round + turn) % 2;
-            let (v, t, d) = &mut sides[side];
-            let began = Instant::now();
-            answers[side] = match side {
-                0 => call::<L, Published>(which, start, v, t, d, used),
-                _ => call::<L, Port>(which, start, v, t, d, used),
-            };
-            best[side] = best[side].min(began.elapsed().as_secs_f64());
-        }
-        if round == 0 {
-            let same = answers[0] == answers[1] && sides[0].0 == sides[1].0 && sides[0].1 == sides[1].1 && sides[0].2[..used] == sides[1].2[..used];
-            assert!(same, "the two differ on {}", which.name());
-            best = [f64::MAX; 2];
-        }
+/// The decoder of the C library for this call, if it is linked and has one.
+#[cfg(feature = "clibrary")]
+fn c_decoder<L: Layout>(which: Call) -> Option<oracle_driver::clibrary::Decoder> {
+    match which {
+        Call::Decode => oracle_driver::clibrary::decoder::<L>(false),
+        Call::DecodeDeltas => oracle_driver::clibrary::decoder::<L>(true),
+        _ => None,
     }
-    (best[0] / n as f64 * 1e9, best[1] / n as f64 * 1e9)
 }
 
-fn table<L: Layout>(coder: &str, n: usize, rounds: usize) {
+#[cfg(not(feature = "clibrary"))]
+fn c_decoder<L: Layout>(_which: Call) -> Option<fn(*const u8, *mut u32, u32) -> usize> {
+    None
+}
+
+/// Nanoseconds a value, the best of each: the crate's, the port's, and the C library's where it has the call.
+fn time<L: Layout>(which: Call, numbers: &[u64], rounds: usize) -> (f64, f64, Option<f64>) {
+    let n = numbers.len();
+    let start = L::Elem::from_u64(0);
+    let encoding = matches!(which, Call::Encode | Call::EncodeDeltas);
+    let decoding = matches!(which, Call::Decode | Call::DecodeDeltas);
+    let how = if matches!(which, Call::EncodeDeltas | Call::DecodeDeltas | Call::SkipDeltas) { Call::EncodeDeltas } else { Call::Encode };
+    let values: Vec<L::Elem> = numbers.iter().map(|&v| L::Elem::from_u64(v)).collect();
+    let (tags, data) = packed::<L>(how, start, &values);
+    let used = data.len();
+
+    // Each engine has buffers of its own, and what it is to write is not there yet.
+    let decoder = c_decoder::<L>(which);
+    let engines = if decoder.is_some() { 3 } else { 2 };
+    let mut sides = Vec::new();
+    for side in 0..engines {
+        let v = if decoding { vec![start; n] } else { values.clone() };
+        let (t, d) = match (encoding, side) {
+            (true, _) => (vec![0; tags.len()], vec![0; L::GROUP * n / 4]),
+            (_, 2) => ([&tags[..], &data].concat(), Vec::new()),
+            _ => (tags.clone(), data.clone()),
+        };
+        sides.push((v, t, d));
+    }
+
+    let mut best = [f64::MAX; 3];
+    for round in 0..=rounds {
+        for turn in 0..engines {
+            let side = (round + turn) % engines;
+            let (v, t, d) = &mut sides[side];
+            let began = Instant::now();
+            let answer = match (side, decoder) {
+                (0, _) => call::<L, Published>(which, start, v, t, d, used),
+                (2, Some(decode)) => {
+                    let read = decode(black_box(t.as_ptr()), v.as_mut_ptr() as *mut u32, n as u32);
+                    black_box(&v);
+                    ((read - n / 4) as u64, 0)
+                }
+                _ => call::<L, Port>(which, start, v, t, d, used),
+            };
+            let took = began.elapsed().as_secs_f64();
+            // The first round is not timed: what came of it must be the column.
+            if round > 0 {
+                best[side] = best[side].min(took);
+                continue;
+            }
+            let sum = if which == Call::SkipDeltas { values.last().map_or(0, |v| v.to_u64()) } else { 0 };
+            let there = side == 2 || *t == tags && d[..used] == data;
+            assert!(answer == (used as u64, sum) && *v == values && there, "engine {side} has another column on {}", which.name());
+        }
+    }
+    let [rust, port, c] = best.map(|b| b / n as f64 * 1e9);
+    (rust, port, decoder.map(|_| c))
+}
+
+fn table<L: Layout>(n: usize, rounds: usize) {
     for which in [Call::Encode, Call::EncodeDeltas, Call::Decode, Call::DecodeDeltas, Call::DataLen, Call::SkipDeltas] {
         let deltas = matches!(which, Call::EncodeDeltas | Call::DecodeDeltas | Call::SkipDeltas);
-        let mut row = format!("| {coder} {} |", which.name());
+        let mut row = format!("| {} {} |", L::NAME, which.name());
+        let mut beside = Vec::new();
         for column in [labels(n), offsets(n), mixed::<L>(n, deltas)] {
-            let (rust, port) = time::<L>(which, &column, rounds);
+            let (rust, port, c) = time::<L>(which, &column, rounds);
             row += &format!(" {rust:.3} / {port:.3} = {:.2} |", port / rust);
+            beside.extend(c.map(|c| format!("{c:.3}")));
+        }
+        if cfg!(feature = "clibrary") {
+            row += &format!(" {} |", if beside.is_empty() { "-".into() } else { beside.join(", ") });
         }
         println!("{row}");
     }
 }
 
-fn growth(rounds: usize) {
-    println!("| values | delta decode of labels, 0124, ns a value |\n|---|---|");
-    for n in [1_000_usize, 10_000, 100_000, 1_000_000, 10_000_000, 64_000_000] {
-        let n = n / 4 * 4;
-        let (_, port) = time::<L0124>(Call::DecodeDeltas, &labels(n), if n > 1_000_000 { 4 } else { rounds });
-        println!("| {n} | {port:.3} |");
+const SIZES: [usize; 6] = [1_000, 10_000, 100_000, 1_000_000, 10_000_000, 64_000_000];
+
+fn growth<L: Layout>(rounds: usize) {
+    for which in [Call::Encode, Call::Decode, Call::DecodeDeltas] {
+        let mut row = format!("| {} {} |", L::NAME, which.name());
+        for n in SIZES {
+            let (rust, port, _) = time::<L>(which, &labels(n), if n > 1_000_000 { 4 } else { rounds });
+            row += &format!(" {rust:.3} / {port:.3} |");
+        }
+        println!("{row}");
     }
 }
 
@@ -158,11 +204,17 @@ fn main() {
         }
     }
     if grow {
-        return growth(rounds);
+        println!("ns a value, the crate / the port, labels\n");
+        println!("| values |{}\n|---{}|", SIZES.map(|n| format!(" {n} |")).concat(), "|---".repeat(SIZES.len()));
+        growth::<L1234>(rounds);
+        growth::<L0124>(rounds);
+        return growth::<L1248>(rounds);
     }
+    let c = cfg!(feature = "clibrary");
     println!("ns a value, the crate / the port = ratio; {n} values, best of {rounds} alternating rounds\n");
-    println!("| call | labels | offsets | mixed widths |\n|---|---|---|---|");
-    table::<L1234>("1234", n, rounds);
-    table::<L0124>("0124", n, rounds);
-    table::<L1248>("1248", n, rounds);
+    println!("| call | labels | offsets | mixed widths |{}", if c { " the C library on the three |" } else { "" });
+    println!("|---|---|---|---|{}", if c { "---|" } else { "" });
+    table::<L1234>(n, rounds);
+    table::<L0124>(n, rounds);
+    table::<L1248>(n, rounds);
 }

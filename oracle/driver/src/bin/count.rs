@@ -2,7 +2,7 @@
 //!
 //!     count ENGINE CALL CODER VALUES TIMES
 //!
-//! ENGINE is rust, or port if linked. VALUES (a multiple of 4) numbers have widths drawn evenly
+//! ENGINE is rust, or if linked port, or c: the C library's decoders. VALUES (a multiple of 4) numbers have widths drawn evenly
 //! of the coder's four; for the calls with deltas and for skipping the steps have. The buffers
 //! are made first, and only the calls differ between two values of TIMES, so the difference of
 //! two counts is the calls' own: see oracle/instructions.
@@ -78,8 +78,28 @@ fn with<N: Engine>(call: Call, coder: &str, n: usize, times: u64) -> u64 {
     }
 }
 
+#[cfg(feature = "clibrary")]
+fn count_c<L: Layout>(call: Call, n: usize, times: u64) -> u64 {
+    let (deltas, how) = match call {
+        Call::Decode => (false, Call::Encode),
+        Call::DecodeDeltas => (true, Call::EncodeDeltas),
+        _ => usage(),
+    };
+    let Some(decode) = oracle_driver::clibrary::decoder::<L>(deltas) else { usage() };
+    let mut values = mixed::<L>(n, deltas);
+    let (tags, data) = packed::<L>(how, L::Elem::from_u64(0), &values);
+    let joined = [tags, data].concat();
+    let mut all: u64 = 0;
+    for _ in 0..times {
+        let read = decode(black_box(joined.as_ptr()), values.as_mut_ptr() as *mut u32, n as u32);
+        black_box(&values);
+        all = black_box(all.wrapping_add(read as u64));
+    }
+    all
+}
+
 fn usage() -> ! {
-    eprintln!("usage: count rust|port CALL CODER VALUES TIMES");
+    eprintln!("usage: count rust|port|c CALL CODER VALUES TIMES");
     std::process::exit(2)
 }
 
@@ -95,6 +115,10 @@ fn main() {
         "rust" => with::<Published>(call, coder, n, times),
         #[cfg(feature = "port")]
         "port" => with::<oracle_driver::port::Port>(call, coder, n, times),
+        #[cfg(feature = "clibrary")]
+        "c" if coder == "1234" => count_c::<L1234>(call, n, times),
+        #[cfg(feature = "clibrary")]
+        "c" if coder == "0124" => count_c::<L0124>(call, n, times),
         _ => usage(),
     };
     println!("{bytes}");
