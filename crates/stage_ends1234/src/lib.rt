@@ -26,19 +26,18 @@ pub struct StageEnds {
     pub copied: usize,
 }
 
-// The number of encoded bytes for 4 groups, from the i-th on: one load for the four tags, and a sum in u32, so that an entry is added
-// straight from the table.
-fn data_len4(tags: &[u8], i: usize, lens: &[u32; 256]) -> usize
+// The number of encoded bytes for 4 groups, from the i-th on: one load for the four tags, and a sum in u32, as the entries are, so that
+// each is added straight from the table.
+fn data_len4(tags: &[u8], i: usize, lens: &[u32; 256]) -> u32
     requires { ⌜ i + 4 ≤ length (now tags) ⌝ }
     requires { ⌜ Lengths t1234 (now lens) ⌝ }
     ensures { λ r. ⌜ Measured t1234 (now (tags .entry)) i (i + 4) r ⌝ }
 {
     let tag4 = tags4(tags, i);
-    let len4 = lens[(tag4 % 256) as usize]
+    lens[(tag4 % 256) as usize]
         + lens[(tag4 / 256 % 256) as usize]
         + lens[(tag4 / 65536 % 256) as usize]
-        + lens[(tag4 / 16777216) as usize];
-    len4 as usize
+        + lens[(tag4 / 16777216) as usize]
 }
 
 // The number of encoded bytes for 8 groups, from the i-th on.
@@ -47,7 +46,7 @@ fn data_len8(tags: &[u8], i: usize, lens: &[u32; 256]) -> usize
     requires { ⌜ Lengths t1234 (now lens) ⌝ }
     ensures { λ r. ⌜ Measured t1234 (now (tags .entry)) i (i + 8) r ⌝ }
 {
-    data_len4(tags, i, lens) + data_len4(tags, i + 4, lens)
+    (data_len4(tags, i, lens) + data_len4(tags, i + 4, lens)) as usize
 }
 
 // The number of encoded bytes of all groups from the i-th on.

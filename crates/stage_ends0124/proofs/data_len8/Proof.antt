@@ -22,6 +22,9 @@ data-len4-requires-2 c κs = search needs
 add-result : tie.Need-add-result
 add-result c = search needs
 
+cast-result : tie.Need-cast-result
+cast-result c = search needs
+
 returns : tie.Need-returns
 returns c =
     let a = c .before .before .before .args in
@@ -30,4 +33,4 @@ returns c =
 
 pub data-len8-spec : {M : Type 1} → statement M
 data-len8-spec =
-    tie.close (tie.spec data-len4-requires add-data-len4 data-len4-requires-2 add-result returns)
+    tie.close (tie.spec data-len4-requires add-data-len4 data-len4-requires-2 add-result cast-result returns)
