@@ -9,7 +9,7 @@ use tag_utils::tag_mask_table32;
 
 const TAG_LEN: [usize; 4] = [0, 1, 2, 4];
 
-const LENGTH_TABLE: [u8; 256] = [
+const LENGTH_TABLE: [u32; 256] = [
     0,
     1,
     2,
@@ -285,7 +285,7 @@ pub fn tag_max() -> [u32; 4]
 }
 
 // The number of bytes of a group, by tag.
-pub fn tag_length_table() -> [u8; 256]
+pub fn tag_length_table() -> [u32; 256]
     ensures { λ r. ⌜ Lengths t0124 r ⌝ }
 {
     LENGTH_TABLE
@@ -308,7 +308,7 @@ pub fn tag_value(value: u32) -> TagValue
 }
 
 // Returns the number of bytes a group of 4 with the given tag occupies, from the lent length table.
-pub fn data_len(tag: u8, lens: &[u8; 256]) -> usize
+pub fn data_len(tag: u8, lens: &[u32; 256]) -> usize
     requires { ⌜ Lengths t0124 (now lens) ⌝ }
     ensures { λ r. ⌜ r ≡ total (widths t0124 tag) ⌝ }
 {

@@ -9,7 +9,7 @@ use tag_utils::tag_mask_table32;
 
 const TAG_LEN: [usize; 4] = [1, 2, 3, 4];
 
-const LENGTH_TABLE: [u8; 256] = [
+const LENGTH_TABLE: [u32; 256] = [
     4,
     5,
     6,
@@ -283,7 +283,7 @@ pub fn tag_max() -> [u32; 4]
 }
 
 // The number of bytes of a group, by tag.
-pub fn tag_length_table() -> [u8; 256]
+pub fn tag_length_table() -> [u32; 256]
     ensures { λ r. ⌜ Lengths t1234 r ⌝ }
 {
     LENGTH_TABLE
@@ -312,7 +312,7 @@ pub fn tag_value(value: u32) -> TagValue
 }
 
 // Returns the number of bytes a group of 4 with the given tag occupies, from the lent length table.
-pub fn data_len(tag: u8, lens: &[u8; 256]) -> usize
+pub fn data_len(tag: u8, lens: &[u32; 256]) -> usize
     requires { ⌜ Lengths t1234 (now lens) ⌝ }
     ensures { λ r. ⌜ r ≡ total (widths t1234 tag) ⌝ }
 {

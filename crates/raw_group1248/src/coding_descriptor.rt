@@ -9,7 +9,7 @@ use tag_utils::tag_mask_table64;
 
 const TAG_LEN: [usize; 4] = [1, 2, 4, 8];
 
-const LENGTH_TABLE: [u8; 256] = [
+const LENGTH_TABLE: [u32; 256] = [
     4,
     5,
     7,
@@ -283,7 +283,7 @@ pub fn tag_max() -> [u64; 4]
 }
 
 // The number of bytes of a group, by tag.
-pub fn tag_length_table() -> [u8; 256]
+pub fn tag_length_table() -> [u32; 256]
     ensures { λ r. ⌜ Lengths t1248 r ⌝ }
 {
     LENGTH_TABLE
@@ -315,7 +315,7 @@ pub fn tag_value(value: u64) -> TagValue
 }
 
 // Returns the number of bytes a group of 4 with the given tag occupies, from the lent length table.
-pub fn data_len(tag: u8, lens: &[u8; 256]) -> usize
+pub fn data_len(tag: u8, lens: &[u32; 256]) -> usize
     requires { ⌜ Lengths t1248 (now lens) ⌝ }
     ensures { λ r. ⌜ r ≡ total (widths t1248 tag) ⌝ }
 {

@@ -100,7 +100,7 @@ fn word(input: &[u8], at: usize) -> u64
 }
 
 // The number of len bytes, of which mask is the mask: the bytes behind them do not count.
-fn number(input: &[u8], at: usize, len: usize, mask: u64) -> u64
+pub fn number(input: &[u8], at: usize, len: usize, mask: u64) -> u64
     requires { ⌜ (at + 8 ≤ length (now input)) × (len ≤ 8) × (mask ≡ 256 ^ len - 1) ⌝ }
     ensures { λ r. ⌜ r ≡ leValue (take len (drop at (now (input .entry)))) ⌝ }
 {
@@ -127,7 +127,7 @@ pub fn decode(input: &[u8], at: usize, tag: u8, tag_len: &[usize; 4], tag_max: &
 }
 
 // The values that deltas make from the last element of base on.
-fn values(base: [u64; 4], deltas: [u64; 4]) -> [u64; 4]
+pub fn values(base: [u64; 4], deltas: [u64; 4]) -> [u64; 4]
     ensures { λ r. ⌜ r ≡ walked m64 (getD base 3 0) deltas ⌝ }
 {
     let first = wrapping_add_u64(base[3], deltas[0]);
@@ -158,7 +158,7 @@ pub fn decode_deltas(
 }
 
 // The wrapping sum over four.
-fn sum(group: [u64; 4]) -> u64
+pub fn sum(group: [u64; 4]) -> u64
     ensures { λ r. ⌜ r ≡ wrappingSum m64 group ⌝ }
 {
     let mut s = 0u64;

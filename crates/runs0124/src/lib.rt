@@ -7,6 +7,7 @@ ghost use lib.Seq.{sets};
 ghost use Rattle.packed.specs.Format.{t0124, m32};
 ghost use Rattle.packed.specs.Column.{Windows, Runs, RunsDeltas, RunsSum};
 ghost use Rattle.tag_utils.specs.Tables.{masks};
+ghost use Rattle.places.specs.Places.{Places, Halves};
 use raw_group0124::raw_group;
 use std::num::wrapping_add_u32;
 
@@ -40,17 +41,17 @@ fn decode8(
     data: &[u8],
     at: usize,
     values: &mut [u32],
-    tag_len: &[usize; 4],
-    tag_max: &[u32; 4],
+    places: &[u32; 256],
+    halves: &[u32; 32],
 ) -> usize
     requires { ⌜ Windows t0124 (now tags) (now «data») i (i + 8) at ⌝ }
     requires { ⌜ 4 * (i + 8) ≤ length (now values) ⌝ }
-    requires { ⌜ (now «tag_len» ≡ t0124) × (now «tag_max» ≡ masks t0124) ⌝ }
+    requires { ⌜ Places t0124 (now places) × Halves t0124 (now halves) ⌝ }
     ensures { λ r. ⌜ Runs t0124 (now (tags .entry)) (now («data» .entry)) (now (values .entry)) i (i + 8) at r (now (values .exit)) ⌝ }
 {
     let mut read = at;
     for k in 0..8 {
-        let d = raw_group::decode(data, read, tags[i + k], tag_len, tag_max);
+        let d = fast_decode0124::decode(data, read, tags[i + k], places, halves);
         let group = d.group;
         store_group(values, 4 * (i + k), group);
         read += d.read;
@@ -59,23 +60,21 @@ fn decode8(
 }
 
 // Eight tags at once.
-pub fn decode_eights(
-    tags: &[u8],
-    to: usize,
-    data: &[u8],
-    values: &mut [u32],
-    tag_len: &[usize; 4],
-    tag_max: &[u32; 4],
-) -> usize
+pub fn decode_eights(tags: &[u8], to: usize, data: &[u8], values: &mut [u32]) -> usize
     requires { ⌜ Windows t0124 (now tags) (now «data») 0 to 0 × (to % 8 ≡ 0) ⌝ }
     requires { ⌜ 4 * to ≤ length (now values) ⌝ }
-    requires { ⌜ (now «tag_len» ≡ t0124) × (now «tag_max» ≡ masks t0124) ⌝ }
     ensures { λ r. ⌜ Runs t0124 (now (tags .entry)) (now («data» .entry)) (now (values .entry)) 0 to 0 r (now (values .exit)) ⌝ }
 {
+    // No table is made where nothing is decoded by it.
+    if to == 0 {
+        return 0;
+    }
+    let places = fast_decode0124::places();
+    let halves = fast_decode0124::halves();
     let mut read = 0usize;
     let mut i = 0usize;
     while i < to {
-        read = decode8(tags, i, data, read, values, tag_len, tag_max);
+        read = decode8(tags, i, data, read, values, &places, &halves);
         i += 8;
     }
     read
@@ -115,18 +114,18 @@ fn decode_deltas8(
     at: usize,
     base: [u32; 4],
     values: &mut [u32],
-    tag_len: &[usize; 4],
-    tag_max: &[u32; 4],
+    places: &[u32; 256],
+    halves: &[u32; 32],
 ) -> Ran
     requires { ⌜ Windows t0124 (now tags) (now «data») i (i + 8) at ⌝ }
     requires { ⌜ 4 * (i + 8) ≤ length (now values) ⌝ }
-    requires { ⌜ (now «tag_len» ≡ t0124) × (now «tag_max» ≡ masks t0124) ⌝ }
+    requires { ⌜ Places t0124 (now places) × Halves t0124 (now halves) ⌝ }
     ensures { λ r. ⌜ RunsDeltas t0124 (now (tags .entry)) (now («data» .entry)) (now (values .entry)) m32 i (i + 8) at (getD base 3 0) (r .read) (getD (r .base) 3 0) (now (values .exit)) ⌝ }
 {
     let mut read = at;
     let mut prev = base;
     for k in 0..8 {
-        let d = raw_group::decode_deltas(data, read, tags[i + k], prev, tag_len, tag_max);
+        let d = fast_decode0124::decode_deltas(data, read, tags[i + k], prev, places, halves);
         prev = d.group;
         store_group(values, 4 * (i + k), prev);
         read += d.read;
@@ -141,19 +140,22 @@ pub fn decode_deltas_eights(
     data: &[u8],
     base: [u32; 4],
     values: &mut [u32],
-    tag_len: &[usize; 4],
-    tag_max: &[u32; 4],
 ) -> Ran
     requires { ⌜ Windows t0124 (now tags) (now «data») 0 to 0 × (to % 8 ≡ 0) ⌝ }
     requires { ⌜ 4 * to ≤ length (now values) ⌝ }
-    requires { ⌜ (now «tag_len» ≡ t0124) × (now «tag_max» ≡ masks t0124) ⌝ }
     ensures { λ r. ⌜ RunsDeltas t0124 (now (tags .entry)) (now («data» .entry)) (now (values .entry)) m32 0 to 0 (getD base 3 0) (r .read) (getD (r .base) 3 0) (now (values .exit)) ⌝ }
 {
+    // No table is made where nothing is decoded by it.
+    if to == 0 {
+        return Ran { read: 0, base };
+    }
+    let places = fast_decode0124::places();
+    let halves = fast_decode0124::halves();
     let mut read = 0usize;
     let mut prev = base;
     let mut i = 0usize;
     while i < to {
-        let ran = decode_deltas8(tags, i, data, read, prev, values, tag_len, tag_max);
+        let ran = decode_deltas8(tags, i, data, read, prev, values, &places, &halves);
         read = ran.read;
         prev = ran.base;
         i += 8;
@@ -196,17 +198,17 @@ fn skip_deltas8(
     data: &[u8],
     at: usize,
     start: u32,
-    tag_len: &[usize; 4],
-    tag_max: &[u32; 4],
+    places: &[u32; 256],
+    halves: &[u32; 32],
 ) -> Summed
     requires { ⌜ Windows t0124 (now tags) (now «data») i (i + 8) at ⌝ }
-    requires { ⌜ (now «tag_len» ≡ t0124) × (now «tag_max» ≡ masks t0124) ⌝ }
+    requires { ⌜ Places t0124 (now places) × Halves t0124 (now halves) ⌝ }
     ensures { λ r. ⌜ RunsSum t0124 (now (tags .entry)) (now («data» .entry)) m32 i (i + 8) at start (r .read) (r .sum) ⌝ }
 {
     let mut read = at;
     let mut sum = start;
     for k in 0..8 {
-        let s = raw_group::skip_deltas(data, read, tags[i + k], tag_len, tag_max);
+        let s = fast_decode0124::skip_deltas(data, read, tags[i + k], places, halves);
         read += s.read;
         sum = wrapping_add_u32(sum, s.sum);
     }
@@ -214,22 +216,21 @@ fn skip_deltas8(
 }
 
 // Eight tags at once, skipped.
-pub fn skip_deltas_eights(
-    tags: &[u8],
-    to: usize,
-    data: &[u8],
-    tag_len: &[usize; 4],
-    tag_max: &[u32; 4],
-) -> Summed
+pub fn skip_deltas_eights(tags: &[u8], to: usize, data: &[u8]) -> Summed
     requires { ⌜ Windows t0124 (now tags) (now «data») 0 to 0 × (to % 8 ≡ 0) ⌝ }
-    requires { ⌜ (now «tag_len» ≡ t0124) × (now «tag_max» ≡ masks t0124) ⌝ }
     ensures { λ r. ⌜ RunsSum t0124 (now (tags .entry)) (now («data» .entry)) m32 0 to 0 0 (r .read) (r .sum) ⌝ }
 {
+    // No table is made where nothing is decoded by it.
+    if to == 0 {
+        return Summed { read: 0, sum: 0 };
+    }
+    let places = fast_decode0124::places();
+    let halves = fast_decode0124::halves();
     let mut read = 0usize;
     let mut sum = 0u32;
     let mut i = 0usize;
     while i < to {
-        let s = skip_deltas8(tags, i, data, read, sum, tag_len, tag_max);
+        let s = skip_deltas8(tags, i, data, read, sum, &places, &halves);
         read = s.read;
         sum = s.sum;
         i += 8;

@@ -56,7 +56,7 @@ pub fn decode_stages(
 {
     let eights = ends.eights;
     let groups = ends.groups;
-    let first = runs1234::decode_eights(tags, eights, data, values, tag_len, tag_max);
+    let first = runs1234::decode_eights(tags, eights, data, values);
     let second = runs1234::decode_singles(
         tags,
         eights,
@@ -124,15 +124,7 @@ pub fn decode_deltas_stages(
 {
     let eights = ends.eights;
     let groups = ends.groups;
-    let first = runs1234::decode_deltas_eights(
-        tags,
-        eights,
-        data,
-        [initial; 4],
-        values,
-        tag_len,
-        tag_max,
-    );
+    let first = runs1234::decode_deltas_eights(tags, eights, data, [initial; 4], values);
     let read = first.read;
     let base = first.base;
     let second = runs1234::decode_deltas_singles(
@@ -196,7 +188,7 @@ pub fn skip_deltas_stages(
 {
     let eights = ends.eights;
     let groups = ends.groups;
-    let first = runs1234::skip_deltas_eights(tags, eights, data, tag_len, tag_max);
+    let first = runs1234::skip_deltas_eights(tags, eights, data);
     let read = first.read;
     let sum = first.sum;
     let second = runs1234::skip_deltas_singles(

@@ -1,7 +1,8 @@
-// The mask tables of `tag_utils.rs`. Its length tables are constants, one in each coder's `coding_descriptor`.
+// The mask tables of `tag_utils.rs`, and tags by fours. Its length tables are constants, one in each coder's `coding_descriptor`.
 ghost use mathlib.Core.Path.{_≡_};
-ghost use Prim.Native.Nat.{ℕ, _^_, _-_, _≤_};
-ghost use lib.ListN.{getD};
+ghost use Prim.Native.Nat.{ℕ, _+_, _^_, _-_, _≤_, _<_};
+ghost use lib.ListN.{length, take, drop, getD};
+ghost use Rattle.packed.specs.Format.{leValue};
 ghost use Rattle.tag_utils.specs.Tables.{masks};
 
 // The mask of a width: all ones in its bytes.
@@ -54,4 +55,21 @@ pub fn tag_mask_table64(tag_len: [usize; 4]) -> [u64; 4]
         tag_mask64(tag_len[2]),
         tag_mask64(tag_len[3]),
     ]
+}
+
+fn wide(tag: u8) -> u32
+    ensures { λ r. ⌜ (r ≡ tag) × (r < 256) ⌝ }
+{
+    tag as u32
+}
+
+// Four tags put together, the first in the low byte: one load.
+pub fn tags4(tags: &[u8], i: usize) -> u32
+    requires { ⌜ i + 4 ≤ length (now tags) ⌝ }
+    ensures { λ r. ⌜ r ≡ leValue (take 4 (drop i (now (tags .entry)))) ⌝ }
+{
+    wide(tags[i])
+        + wide(tags[i + 1]) * 256
+        + wide(tags[i + 2]) * 65536
+        + wide(tags[i + 3]) * 16777216
 }

@@ -1,5 +1,4 @@
 -- `decode8` meets its contract: by the laws of its loop. Assumes nothing.
-use mathlib.Core.Path.{_≡_}
 use Prim.Native.Nat.{_-_, _+_}
 use native.Mathlib.Omega.{arith}
 use lib.ListN.{getD}
@@ -8,15 +7,15 @@ use Rattle.packed.proofs.Ends.{group-most}
 use Rattle.packed.proofs.Runs.{Running, window, running-from, running-step, running-done}
 use Rattle.packed.specs.Format.{t1234}
 use Rattle.packed.proofs.Coders.{table1234}
-use Rattle.tag_utils.specs.Tables.{masks}
+use Rattle.places.specs.Places.{Places, Halves}
 use Rattle.runs1234.proofs.decode8.Statement.{statement}
 use Rattle.runs1234.proofs.decode8.Tie as tie
 
 abbrev Inv-loop : tie.InvT-loop
-Inv-loop tags i «data» at values₀ tag-len tag-max read₀ k₀ values read k = Running t1234 tags «data» values₀ i (i + 8) at (i + k) read values × (tag-len ≡ t1234) × (tag-max ≡ masks t1234)
+Inv-loop tags i «data» at values₀ places halves read₀ k₀ values read k = Running t1234 tags «data» values₀ i (i + 8) at (i + k) read values × Places t1234 places × Halves t1234 halves
 
 abbrev μ-loop : tie.MeasureT-loop
-μ-loop tags i «data» at values₀ tag-len tag-max read₀ k₀ values read k = 8 - k
+μ-loop tags i «data» at values₀ places halves read₀ k₀ values read k = 8 - k
 
 loop-holds : tie.Need-loop-holds Inv-loop μ-loop
 loop-holds c = (running-from t1234 (c .before .before .before .pre .0) (c .before .before .before .pre .1 .0), c .before .before .before .pre .1 .1 .0, c .before .before .before .pre .1 .1 .1)

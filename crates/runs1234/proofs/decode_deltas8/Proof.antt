@@ -1,5 +1,4 @@
 -- `decode_deltas8` meets its contract: by the laws of its loop. Assumes nothing.
-use mathlib.Core.Path.{_≡_}
 use Prim.Native.Nat.{_-_, _+_}
 use native.Mathlib.Omega.{arith}
 use lib.ListN.{getD}
@@ -10,15 +9,15 @@ use Rattle.packed.proofs.Ends.{group-most}
 use Rattle.packed.proofs.Runs.{RunningDeltas, window, running-deltas-from, running-deltas-step, running-deltas-done}
 use Rattle.packed.specs.Format.{t1234, m32}
 use Rattle.packed.proofs.Coders.{table1234}
-use Rattle.tag_utils.specs.Tables.{masks}
+use Rattle.places.specs.Places.{Places, Halves}
 use Rattle.runs1234.proofs.decode_deltas8.Statement.{statement}
 use Rattle.runs1234.proofs.decode_deltas8.Tie as tie
 
 abbrev Inv-loop : tie.InvT-loop
-Inv-loop tags i «data» at values₀ tag-len tag-max read₀ prev₀ k₀ values read prev k = RunningDeltas t1234 tags «data» values₀ m32 i (i + 8) at (getD prev₀ 3 0) (i + k) read (getD prev 3 0) values × (tag-len ≡ t1234) × (tag-max ≡ masks t1234)
+Inv-loop tags i «data» at values₀ places halves read₀ prev₀ k₀ values read prev k = RunningDeltas t1234 tags «data» values₀ m32 i (i + 8) at (getD prev₀ 3 0) (i + k) read (getD prev 3 0) values × Places t1234 places × Halves t1234 halves
 
 abbrev μ-loop : tie.MeasureT-loop
-μ-loop tags i «data» at values₀ tag-len tag-max read₀ prev₀ k₀ values read prev k = 8 - k
+μ-loop tags i «data» at values₀ places halves read₀ prev₀ k₀ values read prev k = 8 - k
 
 loop-holds : tie.Need-loop-holds Inv-loop μ-loop
 loop-holds c =

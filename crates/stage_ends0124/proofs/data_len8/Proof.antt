@@ -1,67 +1,36 @@
--- `data_len8` meets its contract: one length after the other. Assumes nothing.
-use mathlib.Core.Path.{_≡_, subst}
-use Prim.Native.Nat.{ℕ, _+_, _-_, _≤_}
-use native.Mathlib.Omega.{arith}
-use lib.ListN.{length, getD}
+-- `data_len8` meets its contract: four lengths and four more. Assumes nothing.
+use mathlib.Core.Path.{subst}
+use Prim.Native.Nat.{ℕ, _+_}
+use native.Mathlib.Nat.{add-assoc}
 use borrow.Author.Needs.{needs}
-use Rattle.packed.proofs.Ends.{group-most, measured-none, measured-step}
 use Rattle.packed.specs.Column.{Measured}
 use Rattle.packed.specs.Format.{t0124}
 use Rattle.packed.proofs.Coders.{table0124}
-use Rattle.tag_utils.specs.Tables.{Lengths}
+use Rattle.packed.proofs.Ends.{measured-join}
 use Rattle.stage_ends0124.proofs.data_len8.Statement.{statement}
 use Rattle.stage_ends0124.proofs.data_len8.Tie as tie
 
-abbrev Inv-loop : tie.InvT-loop
-Inv-loop tags i lens len₀ k₀ len k = (k ≤ 8) × (i + 8 ≤ length tags) × Measured t0124 tags i (i + k) len × Lengths t0124 lens
+data-len4-requires : tie.Need-data-len4-requires
+data-len4-requires c κs = search needs
 
-abbrev μ-loop : tie.MeasureT-loop
-μ-loop tags i lens len₀ k₀ len k = 8 - k
+add-data-len4 : tie.Need-add-data-len4
+add-data-len4 c = search needs
 
-loop-holds : tie.Need-loop-holds Inv-loop μ-loop
-loop-holds c = (search needs, search needs, measured-none t0124 table0124 _ _ (search needs), c .before .pre .1)
+data-len4-requires-2 : tie.Need-data-len4-requires-2
+data-len4-requires-2 c κs = search needs
 
-add-data-len : tie.Need-add-data-len Inv-loop μ-loop
-add-data-len c = search needs
+add-result : tie.Need-add-result
+add-result c = search needs
 
-shared-slice-read-data-len : tie.Need-shared-slice-read-data-len Inv-loop μ-loop
-shared-slice-read-data-len c = search needs
+cast-result : tie.Need-cast-result
+cast-result c = search needs
 
-data-len-requires : tie.Need-data-len-requires Inv-loop μ-loop
-data-len-requires c κs = c .before .before .loop .inv .3
-
-add-len : tie.Need-add-len Inv-loop μ-loop
-add-len c = omega (arith, c .before .before .before .loop .inv .2 .most, c .data-len .ensures, group-most t0124 table0124 (getD (c .before .before .before .before .before .args .tags .now) (c .before .before .before .before .before .args .i + c .before .before .before .loop .k) 0))
-
-add-k : tie.Need-add-k Inv-loop μ-loop
-add-k c = search needs
-
-loop-less : tie.Need-loop-less Inv-loop μ-loop
-loop-less c = search needs
-
-loop-again : tie.Need-loop-again Inv-loop μ-loop
-loop-again c =
-    let s = c .before .before .before .loop .inv in
-    (search needs, s .1, measured-step t0124 table0124 _ _ (c .data-len .result) (s .2) (omega arith) (c .data-len .ensures), s .3)
-
-returns : tie.Need-returns Inv-loop μ-loop
+returns : tie.Need-returns
 returns c =
     let a = c .before .before .before .args in
-    let e : c .before .loop .k ≡ 8 = omega (arith, c .before .loop .inv .0) in
-    subst (λ (n : ℕ). Measured t0124 (a .tags .now) (a .i) (a .i + n) (c .before .loop .len)) e (c .before .loop .inv .2)
+    subst (λ (n : ℕ). Measured t0124 (a .tags .now) (a .i) n (c .before .data-len4 .result + c .data-len42 .result)) (add-assoc (a .i) 4 4)
+    (measured-join t0124 table0124 (c .before .data-len4 .ensures) (c .data-len42 .ensures))
 
 pub data-len8-spec : {M : Type 1} → statement M
 data-len8-spec =
-    tie.close
-    (tie.spec
-    Inv-loop
-    μ-loop
-    loop-holds
-    add-data-len
-    shared-slice-read-data-len
-    data-len-requires
-    add-len
-    add-k
-    loop-less
-    loop-again
-    returns)
+    tie.close (tie.spec data-len4-requires add-data-len4 data-len4-requires-2 add-result cast-result returns)

@@ -10,7 +10,7 @@ use Rattle.stages0124.proofs.decode_deltas_stages.Statement.{statement}
 use Rattle.stages0124.proofs.decode_deltas_stages.Tie as tie
 
 decode-deltas-eights-requires : tie.Need-decode-deltas-eights-requires
-decode-deltas-eights-requires c κs = ((first-stage t0124 table0124 _ _ (c .before .before .before .before .pre .0 .0), eights-whole t0124 table0124 _ _ (c .before .before .before .before .pre .0 .0)), (omega (arith, groups-in t0124 table0124 _ _ (c .before .before .before .before .pre .0 .0), eights-before t0124 table0124 _ _ (c .before .before .before .before .pre .0 .0), c .before .before .before .before .pre .1 .0), c .before .before .before .before .pre .1 .1))
+decode-deltas-eights-requires c κs = ((first-stage t0124 table0124 _ _ (c .before .before .before .before .pre .0 .0), eights-whole t0124 table0124 _ _ (c .before .before .before .before .pre .0 .0)), omega (arith, groups-in t0124 table0124 _ _ (c .before .before .before .before .pre .0 .0), eights-before t0124 table0124 _ _ (c .before .before .before .before .pre .0 .0), c .before .before .before .before .pre .1 .0))
 
 decode-deltas-singles-requires : tie.Need-decode-deltas-singles-requires
 decode-deltas-singles-requires c κs = (second-start t0124 table0124 _ _ (c .before .before .before .before .before .before .before .before .before .pre .0 .0) _ (c .before .before .before .before .decode-deltas-eights .ensures .read), (omega (arith, groups-in t0124 table0124 _ _ (c .before .before .before .before .before .before .before .before .before .pre .0 .0), eights-before t0124 table0124 _ _ (c .before .before .before .before .before .before .before .before .before .pre .0 .0), c .before .before .before .before .before .before .before .before .before .pre .1 .0), c .before .before .before .before .before .before .before .before .before .pre .1 .1))

@@ -9,7 +9,7 @@ use Rattle.stages0124.proofs.skip_deltas_stages.Statement.{statement}
 use Rattle.stages0124.proofs.skip_deltas_stages.Tie as tie
 
 skip-deltas-eights-requires : tie.Need-skip-deltas-eights-requires
-skip-deltas-eights-requires c κs = ((first-stage t0124 table0124 _ _ (c .before .before .pre .0 .0), eights-whole t0124 table0124 _ _ (c .before .before .pre .0 .0)), c .before .before .pre .1)
+skip-deltas-eights-requires c κs = (first-stage t0124 table0124 _ _ (c .before .before .pre .0 .0), eights-whole t0124 table0124 _ _ (c .before .before .pre .0 .0))
 
 skip-deltas-singles-requires : tie.Need-skip-deltas-singles-requires
 skip-deltas-singles-requires c κs = (second-start t0124 table0124 _ _ (c .before .before .before .pre .0 .0) _ (c .skip-deltas-eights .ensures .read), c .before .before .before .pre .1)

@@ -8,6 +8,9 @@ use Rattle.packed.proofs.Widths.{widths-most}
 use Rattle.raw_group1248.proofs.coding_descriptor.data_len.Statement.{statement}
 use Rattle.raw_group1248.proofs.coding_descriptor.data_len.Tie as tie
 
+mul-result : tie.Need-mul-result
+mul-result c = search needs
+
 element-copy-out-result : tie.Need-element-copy-out-result
 element-copy-out-result c = search needs
 
@@ -20,4 +23,4 @@ returns : tie.Need-returns
 returns c = c .before .pre (c .before .args .tag) (search needs)
 
 pub data-len-spec : {M : Type 1} → statement M
-data-len-spec = tie.close (tie.spec element-copy-out-result cast-result returns)
+data-len-spec = tie.close (tie.spec mul-result element-copy-out-result cast-result returns)
