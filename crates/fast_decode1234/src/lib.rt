@@ -1,5 +1,5 @@
 // A group decoded by two tables, as the Rust's faster engines have their own `decode8`: one entry of the first tells where its four numbers
-// begin and where it ends, and the second has the masks by half tags. It takes 8 loads and no chain of lengths, where a loop over the four
+// begin and where it ends, and the second has the masks by half tags. It takes 10 loads and no chain of lengths, where a loop over the four
 // fields takes 13. The tables are made once for a run of eight groups and more.
 ghost use mathlib.Core.Path.{_≡_};
 ghost use Prim.Native.Nat.{_+_, _≤_};
