@@ -4,8 +4,8 @@
 //!
 //! Columns: drop-frame labels (steps of one, three at nine minutes of ten), byte offsets of frames, and numbers of evenly mixed
 //! widths (for the calls with deltas and for skipping the steps are). What each engine answers and leaves is compared with the column before
-//! anything is timed. The rounds alternate, each engine first by turns, and the best of each is kept. --growth times encoding and both
-//! ways of decoding of labels from 1 thousand to 64 million values; the largest columns take 3 GB. Under an emulator the times are the
+//! anything is timed. The rounds alternate, each engine first by turns, and the best of each is kept. --growth times each call on
+//! labels from 1 thousand to 64 million values; the largest columns take 3 GB. Under an emulator the times are the
 //! emulator's, and say nothing of a processor's.
 
 use oracle_driver::cases::packed;
@@ -158,8 +158,10 @@ fn time<L: Layout>(which: Call, numbers: &[u64], rounds: usize) -> (f64, f64, Op
     (rust, port, decoder.map(|_| c))
 }
 
+const TIMED: [Call; 6] = [Call::Encode, Call::EncodeDeltas, Call::Decode, Call::DecodeDeltas, Call::DataLen, Call::SkipDeltas];
+
 fn table<L: Layout>(n: usize, rounds: usize) {
-    for which in [Call::Encode, Call::EncodeDeltas, Call::Decode, Call::DecodeDeltas, Call::DataLen, Call::SkipDeltas] {
+    for which in TIMED {
         let deltas = matches!(which, Call::EncodeDeltas | Call::DecodeDeltas | Call::SkipDeltas);
         let mut row = format!("| {} {} |", L::NAME, which.name());
         let mut beside = Vec::new();
@@ -178,10 +180,12 @@ fn table<L: Layout>(n: usize, rounds: usize) {
 const SIZES: [usize; 6] = [1_000, 10_000, 100_000, 1_000_000, 10_000_000, 64_000_000];
 
 fn growth<L: Layout>(rounds: usize) {
-    for which in [Call::Encode, Call::Decode, Call::DecodeDeltas] {
+    for which in TIMED {
         let mut row = format!("| {} {} |", L::NAME, which.name());
         for n in SIZES {
-            let (rust, port, _) = time::<L>(which, &labels(n), if n > 1_000_000 { 4 } else { rounds });
+            // A short column's call is over in less than a microsecond: the best of many more.
+            let rounds = if n > 1_000_000 { 4 } else { rounds * (1_000_000 / n) };
+            let (rust, port, _) = time::<L>(which, &labels(n), rounds);
             row += &format!(" {rust:.3} / {port:.3} |");
         }
         println!("{row}");
