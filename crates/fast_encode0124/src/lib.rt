@@ -10,6 +10,7 @@ ghost use Rattle.packed.specs.Refusals.{groupLimit};
 ghost use Rattle.wide_stores.specs.Wide.{ByZeros, StoresWide, EncodesWide, RunsWide, RunsWideSteps};
 use raw_group0124::raw_group;
 use raw_group0124::raw_group::Encoded;
+use zero_bytes::zero_bytes32;
 
 // The two-bit tag value and the number of bytes, by the count of zero bytes in front of a value. Each column lends them to its groups: a
 // constant is built anew wherever it is named.
@@ -61,7 +62,7 @@ fn encode_value(
     ensures { λ r. ⌜ StoresWide t0124 4 4 value (now (output .entry)) at (r .tag) (r .len) (now (output .exit)) ⌝ }
 {
     store_word(output, at, value);
-    let zeros = (u32::leading_zeros(value) / 8) as usize;
+    let zeros = zero_bytes32(value);
     TagValue {
         tag: tags[zeros],
         len: lens[zeros],

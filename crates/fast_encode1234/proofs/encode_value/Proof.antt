@@ -12,39 +12,40 @@ use Rattle.fast_encode1234.proofs.encode_value.Tie as tie
 store-word-requires : tie.Need-store-word-requires
 store-word-requires c κs = search needs
 
-cast-zeros : tie.Need-cast-zeros
-cast-zeros c = omega (arith, leading-le 32 (c .before .before .before .before .before .args .value))
+zero-bytes32-requires : tie.Need-zero-bytes32-requires
+zero-bytes32-requires c κs = search needs
 
-mul-t12 : tie.Need-mul-t12
-mul-t12 c = omega (arith, leading-le 32 (c .before .before .before .before .before .args .value))
+mul-t10 : tie.Need-mul-t10
+mul-t10 c = omega (arith, leading-le 32 (c .before .before .before .before .before .before .args .value))
 
-element-copy-out-t15 : tie.Need-element-copy-out-t15
-element-copy-out-t15 c = omega (arith, leading-le 32 (c .before .before .before .before .before .args .value))
+element-copy-out-t13 : tie.Need-element-copy-out-t13
+element-copy-out-t13 c = omega (arith, leading-le 32 (c .before .before .before .before .before .before .args .value))
 
-mul-t16 : tie.Need-mul-t16
-mul-t16 c = omega (arith, leading-le 32 (c .before .before .before .before .before .before .args .value))
+mul-t14 : tie.Need-mul-t14
+mul-t14 c = omega (arith, leading-le 32 (c .before .before .before .before .before .before .before .args .value))
 
-element-copy-out-t19 : tie.Need-element-copy-out-t19
-element-copy-out-t19 c = omega (arith, leading-le 32 (c .before .before .before .before .before .before .args .value))
+element-copy-out-t17 : tie.Need-element-copy-out-t17
+element-copy-out-t17 c = omega (arith, leading-le 32 (c .before .before .before .before .before .before .before .args .value))
 
 same-length : tie.Need-same-length
 same-length c = search needs
 
 returns : tie.Need-returns
 returns c =
-    let start = c .before .before .before .before .before .before .before in
-    stores-word t1234 table1234 4 3 (start .args .value) _ _ _ _ _ (start .pre .1 .picked (start .args .value) (search needs)) (lit≤ tt) (search needs)
-    (c .before .before .before .before .store-word .ensures)
+    let start = c .before .before .before .before .before .before .before .before in
+    rw (c .before .before .zero-bytes32 .ensures)
+    (stores-word t1234 table1234 4 3 (start .args .value) _ _ _ _ _ (start .pre .1 .picked (start .args .value) (search needs)) (lit≤ tt) (search needs)
+    (c .before .before .before .before .before .store-word .ensures))
 
 pub encode-value-spec : {M : Type 1} → statement M
 encode-value-spec =
     tie.close
     (tie.spec
     store-word-requires
-    cast-zeros
-    mul-t12
-    element-copy-out-t15
-    mul-t16
-    element-copy-out-t19
+    zero-bytes32-requires
+    mul-t10
+    element-copy-out-t13
+    mul-t14
+    element-copy-out-t17
     same-length
     returns)
