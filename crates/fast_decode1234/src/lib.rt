@@ -1,12 +1,13 @@
-// A group decoded by two tables, as the Rust's faster engines have their own `decode8`: one entry of the first tells where its four numbers
-// begin and where it ends, and the second has the masks by half tags. It takes 10 loads and no chain of lengths, where a loop over the four
-// fields takes 13. The tables are made once for a run of eight groups and more.
+// A group decoded by tables, as the Rust's faster engines have their own `decode8`: one entry of the first tells where its four numbers
+// begin and where it ends, so that no read waits for the lengths before it. The masks come by half tags, from a table in which they lie
+// side by side or from a smaller one in which each is found for itself. The tables are made once for a run of eight groups and more.
 ghost use mathlib.Core.Path.{_≡_};
 ghost use Prim.Native.Nat.{_+_, _≤_};
 ghost use lib.ListN.{length, getD};
-ghost use Rattle.packed.specs.Format.{t1234, m32};
+ghost use Rattle.packed.specs.Format.{t1234, m32, widths};
 ghost use Rattle.packed.specs.Group.{Decodes, DecodesDeltas, Skips};
-ghost use Rattle.places.specs.Places.{Places, Halves};
+ghost use Rattle.tag_utils.specs.Tables.{masks};
+ghost use Rattle.places.specs.Places.{placeOf, Places, Halves, Sides};
 use raw_group1234::raw_group;
 use raw_group1234::raw_group::Decoded;
 use raw_group1234::raw_group::Skipped;
@@ -272,33 +273,164 @@ const PLACES: [u32; 256] = [
 
 const HALVES: [u32; 32] = [
     255,
-    65535,
-    16777215,
-    4294967295,
     255,
     65535,
-    16777215,
-    4294967295,
     255,
-    65535,
     16777215,
-    4294967295,
     255,
-    65535,
-    16777215,
     4294967295,
     255,
     255,
+    65535,
+    65535,
+    65535,
+    16777215,
+    65535,
+    4294967295,
+    65535,
+    255,
+    16777215,
+    65535,
+    16777215,
+    16777215,
+    16777215,
+    4294967295,
+    16777215,
+    255,
+    4294967295,
+    65535,
+    4294967295,
+    16777215,
+    4294967295,
+    4294967295,
+    4294967295,
+];
+
+const SIDES: [u32; 128] = [
     255,
     255,
+    4294967295,
+    4294967295,
+    65535,
+    255,
+    4294967295,
+    4294967295,
+    16777215,
+    255,
+    4294967295,
+    4294967295,
+    4294967295,
+    255,
+    4294967295,
+    4294967295,
+    255,
+    65535,
+    4294967295,
+    4294967295,
     65535,
     65535,
+    4294967295,
+    4294967295,
+    16777215,
+    65535,
+    4294967295,
+    4294967295,
+    4294967295,
+    65535,
+    4294967295,
+    4294967295,
+    255,
+    16777215,
+    4294967295,
+    4294967295,
+    65535,
+    16777215,
+    4294967295,
+    4294967295,
+    16777215,
+    16777215,
+    4294967295,
+    4294967295,
+    4294967295,
+    16777215,
+    4294967295,
+    4294967295,
+    255,
+    4294967295,
+    4294967295,
+    4294967295,
+    65535,
+    4294967295,
+    4294967295,
+    4294967295,
+    16777215,
+    4294967295,
+    4294967295,
+    4294967295,
+    4294967295,
+    4294967295,
+    4294967295,
+    4294967295,
+    4294967295,
+    4294967295,
+    255,
+    255,
+    4294967295,
+    4294967295,
+    65535,
+    255,
+    4294967295,
+    4294967295,
+    16777215,
+    255,
+    4294967295,
+    4294967295,
+    4294967295,
+    255,
+    4294967295,
+    4294967295,
+    255,
+    65535,
+    4294967295,
+    4294967295,
     65535,
     65535,
+    4294967295,
+    4294967295,
+    16777215,
+    65535,
+    4294967295,
+    4294967295,
+    4294967295,
+    65535,
+    4294967295,
+    4294967295,
+    255,
+    16777215,
+    4294967295,
+    4294967295,
+    65535,
+    16777215,
+    4294967295,
+    4294967295,
     16777215,
     16777215,
+    4294967295,
+    4294967295,
+    4294967295,
     16777215,
+    4294967295,
+    4294967295,
+    255,
+    4294967295,
+    4294967295,
+    4294967295,
+    65535,
+    4294967295,
+    4294967295,
+    4294967295,
     16777215,
+    4294967295,
     4294967295,
     4294967295,
     4294967295,
@@ -312,39 +444,77 @@ pub fn places() -> [u32; 256]
     PLACES
 }
 
-// For each half tag the mask of its first number, and behind those the mask of its second.
+// For each half tag the mask of its first number, and next to it the mask of its second: one scaled index finds both.
 pub fn halves() -> [u32; 32]
-    ensures { λ r. ⌜ Halves t1234 r ⌝ }
+    ensures { λ r. ⌜ Halves t1234 2 1 r ⌝ }
 {
     HALVES
 }
 
-// Decode the contents of the group with tag from input, from at on, where the widest group would be there.
-pub fn decode(input: &[u8], at: usize, tag: u8, places: &[u32; 256], halves: &[u32; 32]) -> Decoded
+// Rows of four: for each low half tag the masks of its two numbers and all ones twice, and behind those for each high one all ones first.
+pub fn sides() -> [u32; 128]
+    ensures { λ r. ⌜ Sides t1234 r ⌝ }
+{
+    SIDES
+}
+
+// The four masks of a tag, each loaded for itself.
+fn half_masks(tag: u8, halves: &[u32; 32]) -> [u32; 4]
+    requires { ⌜ Halves t1234 2 1 (now halves) ⌝ }
+    ensures { λ r. ⌜ r ≡ masks (widths t1234 tag) ⌝ }
+{
+    let low = 2 * (tag % 16) as usize;
+    let high = 2 * (tag / 16) as usize;
+    [halves[low], halves[low + 1], halves[high], halves[high + 1]]
+}
+
+// The same four side by side, from two rows by one operation.
+fn side_masks(tag: u8, sides: &[u32; 128]) -> [u32; 4]
+    requires { ⌜ Sides t1234 (now sides) ⌝ }
+    ensures { λ r. ⌜ r ≡ masks (widths t1234 tag) ⌝ }
+{
+    let low = 4 * (tag % 16) as usize;
+    let high = 64 + 4 * (tag / 16) as usize;
+    [
+        sides[low] & sides[high],
+        sides[low + 1] & sides[high + 1],
+        sides[low + 2] & sides[high + 2],
+        sides[low + 3] & sides[high + 3],
+    ]
+}
+
+// The four numbers at their places. The tag and the lengths are for the promise alone: no instruction is left of them.
+fn numbers(input: &[u8], at: usize, tag: u8, place: u32, mask: [u32; 4]) -> Decoded
     requires { ⌜ at + 16 ≤ length (now input) ⌝ }
-    requires { ⌜ Places t1234 (now places) × Halves t1234 (now halves) ⌝ }
+    requires { ⌜ (place ≡ placeOf (widths t1234 tag)) × (mask ≡ masks (widths t1234 tag)) ⌝ }
     ensures { λ r. ⌜ Decodes t1234 (now (input .entry)) at tag (r .read) (r .group) ⌝ }
 {
-    let place = places[tag as usize];
     let second = (place % 256) as usize;
     let third = (place / 256 % 256) as usize;
     let fourth = (place / 65536 % 256) as usize;
     let read = (place / 16777216) as usize;
-    let low = (tag % 16) as usize;
-    let high = (tag / 16) as usize;
-    // The lengths are for the promise alone: no instruction is left of them.
     Decoded {
         read,
         group: [
-            raw_group::number(input, at, second, halves[low]),
-            raw_group::number(input, at + second, third - second, halves[16 + low]),
-            raw_group::number(input, at + third, fourth - third, halves[high]),
-            raw_group::number(input, at + fourth, read - fourth, halves[16 + high]),
+            raw_group::number(input, at, second, mask[0]),
+            raw_group::number(input, at + second, third - second, mask[1]),
+            raw_group::number(input, at + third, fourth - third, mask[2]),
+            raw_group::number(input, at + fourth, read - fourth, mask[3]),
         ],
     }
 }
 
-// The same as deltas from base.
+// Decode the contents of the group with tag from input, from at on, where the widest group would be there. The four masks lie side by side,
+// so that four numbers are masked and stored at once.
+pub fn decode(input: &[u8], at: usize, tag: u8, places: &[u32; 256], sides: &[u32; 128]) -> Decoded
+    requires { ⌜ at + 16 ≤ length (now input) ⌝ }
+    requires { ⌜ Places t1234 (now places) × Sides t1234 (now sides) ⌝ }
+    ensures { λ r. ⌜ Decodes t1234 (now (input .entry)) at tag (r .read) (r .group) ⌝ }
+{
+    numbers(input, at, tag, places[tag as usize], side_masks(tag, sides))
+}
+
+// The same as deltas from base. Each number is added to the one before it, so their masks are loaded one by one.
 pub fn decode_deltas(
     input: &[u8],
     at: usize,
@@ -354,10 +524,16 @@ pub fn decode_deltas(
     halves: &[u32; 32],
 ) -> Decoded
     requires { ⌜ at + 16 ≤ length (now input) ⌝ }
-    requires { ⌜ Places t1234 (now places) × Halves t1234 (now halves) ⌝ }
+    requires { ⌜ Places t1234 (now places) × Halves t1234 2 1 (now halves) ⌝ }
     ensures { λ r. ⌜ DecodesDeltas t1234 (now (input .entry)) m32 at tag (getD base 3 0) (r .read) (r .group) ⌝ }
 {
-    let d = decode(input, at, tag, places, halves);
+    let d = numbers(
+        input,
+        at,
+        tag,
+        places[tag as usize],
+        half_masks(tag, halves),
+    );
     let group = d.group;
     Decoded {
         read: d.read,
@@ -374,10 +550,16 @@ pub fn skip_deltas(
     halves: &[u32; 32],
 ) -> Skipped
     requires { ⌜ at + 16 ≤ length (now input) ⌝ }
-    requires { ⌜ Places t1234 (now places) × Halves t1234 (now halves) ⌝ }
+    requires { ⌜ Places t1234 (now places) × Halves t1234 2 1 (now halves) ⌝ }
     ensures { λ r. ⌜ Skips t1234 (now (input .entry)) m32 at tag (r .read) (r .sum) ⌝ }
 {
-    let d = decode(input, at, tag, places, halves);
+    let d = numbers(
+        input,
+        at,
+        tag,
+        places[tag as usize],
+        half_masks(tag, halves),
+    );
     let group = d.group;
     Skipped {
         read: d.read,

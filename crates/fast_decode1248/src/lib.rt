@@ -1,12 +1,13 @@
 // A group decoded by two tables, as the Rust's faster engines have their own `decode8`: one entry of the first tells where its four numbers
-// begin and where it ends, and the second has the masks by half tags. It takes 10 loads and no chain of lengths, where a loop over the four
-// fields takes 13. The tables are made once for a run of eight groups and more.
+// begin and where it ends, so that no read waits for the lengths before it, and the second has the masks by half tags. The tables are made
+// once for a run of eight groups and more.
 ghost use mathlib.Core.Path.{_≡_};
 ghost use Prim.Native.Nat.{_+_, _≤_};
 ghost use lib.ListN.{length, getD};
-ghost use Rattle.packed.specs.Format.{t1248, m64};
+ghost use Rattle.packed.specs.Format.{t1248, m64, widths};
 ghost use Rattle.packed.specs.Group.{Decodes, DecodesDeltas, Skips};
-ghost use Rattle.places.specs.Places.{Places, Halves};
+ghost use Rattle.tag_utils.specs.Tables.{masks};
+ghost use Rattle.places.specs.Places.{placeOf, Places, Halves};
 use raw_group1248::raw_group;
 use raw_group1248::raw_group::Decoded;
 use raw_group1248::raw_group::Skipped;
@@ -314,34 +315,60 @@ pub fn places() -> [u32; 256]
 
 // For each half tag the mask of its first number, and behind those the mask of its second.
 pub fn halves() -> [u64; 32]
-    ensures { λ r. ⌜ Halves t1248 r ⌝ }
+    ensures { λ r. ⌜ Halves t1248 1 16 r ⌝ }
 {
     HALVES
+}
+
+// The four masks of a tag, each loaded for itself.
+fn half_masks(tag: u8, halves: &[u64; 32]) -> [u64; 4]
+    requires { ⌜ Halves t1248 1 16 (now halves) ⌝ }
+    ensures { λ r. ⌜ r ≡ masks (widths t1248 tag) ⌝ }
+{
+    let low = (tag % 16) as usize;
+    let high = (tag / 16) as usize;
+    [
+        halves[low],
+        halves[low + 16],
+        halves[high],
+        halves[high + 16],
+    ]
+}
+
+// The four numbers at their places. The tag and the lengths are for the promise alone: no instruction is left of them.
+fn numbers(input: &[u8], at: usize, tag: u8, place: u32, mask: [u64; 4]) -> Decoded
+    requires { ⌜ at + 32 ≤ length (now input) ⌝ }
+    requires { ⌜ (place ≡ placeOf (widths t1248 tag)) × (mask ≡ masks (widths t1248 tag)) ⌝ }
+    ensures { λ r. ⌜ Decodes t1248 (now (input .entry)) at tag (r .read) (r .group) ⌝ }
+{
+    let second = (place % 256) as usize;
+    let third = (place / 256 % 256) as usize;
+    let fourth = (place / 65536 % 256) as usize;
+    let read = (place / 16777216) as usize;
+    Decoded {
+        read,
+        group: [
+            raw_group::number(input, at, second, mask[0]),
+            raw_group::number(input, at + second, third - second, mask[1]),
+            raw_group::number(input, at + third, fourth - third, mask[2]),
+            raw_group::number(input, at + fourth, read - fourth, mask[3]),
+        ],
+    }
 }
 
 // Decode the contents of the group with tag from input, from at on, where the widest group would be there.
 pub fn decode(input: &[u8], at: usize, tag: u8, places: &[u32; 256], halves: &[u64; 32]) -> Decoded
     requires { ⌜ at + 32 ≤ length (now input) ⌝ }
-    requires { ⌜ Places t1248 (now places) × Halves t1248 (now halves) ⌝ }
+    requires { ⌜ Places t1248 (now places) × Halves t1248 1 16 (now halves) ⌝ }
     ensures { λ r. ⌜ Decodes t1248 (now (input .entry)) at tag (r .read) (r .group) ⌝ }
 {
-    let place = places[tag as usize];
-    let second = (place % 256) as usize;
-    let third = (place / 256 % 256) as usize;
-    let fourth = (place / 65536 % 256) as usize;
-    let read = (place / 16777216) as usize;
-    let low = (tag % 16) as usize;
-    let high = (tag / 16) as usize;
-    // The lengths are for the promise alone: no instruction is left of them.
-    Decoded {
-        read,
-        group: [
-            raw_group::number(input, at, second, halves[low]),
-            raw_group::number(input, at + second, third - second, halves[16 + low]),
-            raw_group::number(input, at + third, fourth - third, halves[high]),
-            raw_group::number(input, at + fourth, read - fourth, halves[16 + high]),
-        ],
-    }
+    numbers(
+        input,
+        at,
+        tag,
+        places[tag as usize],
+        half_masks(tag, halves),
+    )
 }
 
 // The same as deltas from base.
@@ -354,10 +381,16 @@ pub fn decode_deltas(
     halves: &[u64; 32],
 ) -> Decoded
     requires { ⌜ at + 32 ≤ length (now input) ⌝ }
-    requires { ⌜ Places t1248 (now places) × Halves t1248 (now halves) ⌝ }
+    requires { ⌜ Places t1248 (now places) × Halves t1248 1 16 (now halves) ⌝ }
     ensures { λ r. ⌜ DecodesDeltas t1248 (now (input .entry)) m64 at tag (getD base 3 0) (r .read) (r .group) ⌝ }
 {
-    let d = decode(input, at, tag, places, halves);
+    let d = numbers(
+        input,
+        at,
+        tag,
+        places[tag as usize],
+        half_masks(tag, halves),
+    );
     let group = d.group;
     Decoded {
         read: d.read,
@@ -374,10 +407,16 @@ pub fn skip_deltas(
     halves: &[u64; 32],
 ) -> Skipped
     requires { ⌜ at + 32 ≤ length (now input) ⌝ }
-    requires { ⌜ Places t1248 (now places) × Halves t1248 (now halves) ⌝ }
+    requires { ⌜ Places t1248 (now places) × Halves t1248 1 16 (now halves) ⌝ }
     ensures { λ r. ⌜ Skips t1248 (now (input .entry)) m64 at tag (r .read) (r .sum) ⌝ }
 {
-    let d = decode(input, at, tag, places, halves);
+    let d = numbers(
+        input,
+        at,
+        tag,
+        places[tag as usize],
+        half_masks(tag, halves),
+    );
     let group = d.group;
     Skipped {
         read: d.read,

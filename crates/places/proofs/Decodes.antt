@@ -2,14 +2,15 @@
 -- widths are at most w. Assumes nothing.
 use mathlib.Core.Path.{_≡_, refl, ap, ap₂, sym, _∙_}
 use mathlib.Core.List.{List, [], _∷_}
-use Prim.Native.Nat.{ℕ, _+_, _-_, _*_, _/_, _%_, _^_, _≤_, _<_}
+use Prim.Native.Nat.{ℕ, _+_, _-_, _*_, _/_, _%_, _^_, _≤_}
 use native.Mathlib.Nat.{le-trans}
 use native.Mathlib.Omega.{arith}
 use lib.ListN.{take, drop, getD}
 use lib.Seq.{drop-drop}
 use Rattle.packed.specs.Format.{field, widths, leValue}
 use Rattle.packed.specs.Group.{Decodes}
-use Rattle.places.specs.Places.{Places, Halves}
+use Rattle.tag_utils.specs.Tables.{masks}
+use Rattle.places.specs.Places.{placeOf}
 
 -- the i-th width of a tag
 abbrev pub width : List ℕ → ℕ → ℕ → ℕ
@@ -30,54 +31,37 @@ apart a b c d x ha hb hc hd e =
     let last : x / 65536 ≡ (a + b + c) + 256 * (a + b + c + d) = omega arith in
     (omega arith, rw later (omega arith), rw last (omega arith), omega arith)
 
-pub parts : (t places : List ℕ) (tag : ℕ) → ((f : ℕ) → getD t f 0 ≤ 8) → Places t places → tag < 256 → Parts t tag (getD places tag 0)
+parts : (t : List ℕ) (tag x : ℕ) → ((f : ℕ) → getD t f 0 ≤ 8) → x ≡ placeOf (widths t tag) → Parts t tag x
 unfolding widths
-parts t places tag most p h =
-    let e = apart (width t tag 0) (width t tag 1) (width t tag 2) (width t tag 3) (getD places tag 0) (most (field tag 0)) (most (field tag 1)) (most (field tag 2)) (most (field tag 3)) (p tag h) in
-    record { second = e .0; third = e .1; fourth = e .2; end = e .3 }
+parts t tag x most e =
+    let p = apart (width t tag 0) (width t tag 1) (width t tag 2) (width t tag 3) x (most (field tag 0)) (most (field tag 1)) (most (field tag 2)) (most (field tag 3)) e in
+    record { second = p .0; third = p .1; fourth = p .2; end = p .3 }
 
--- The masks of the four.
-pub record Masks (t : List ℕ) (tag a b c d : ℕ) : Type 0 where
-  pub first : a ≡ 256 ^ width t tag 0 - 1
-  pub second : b ≡ 256 ^ width t tag 1 - 1
-  pub third : c ≡ 256 ^ width t tag 2 - 1
-  pub fourth : d ≡ 256 ^ width t tag 3 - 1
-
-pub four-masks : (t halves : List ℕ) (tag : ℕ) → Halves t halves → tag < 256
-    → Masks t tag (getD halves (tag % 16) 0) (getD halves (16 + tag % 16) 0) (getD halves (tag / 16) 0) (getD halves (16 + tag / 16) 0)
-unfolding widths
-four-masks t halves tag p h =
-    let e = p tag h in
-    record {
-      first = ap (λ (l : List ℕ). getD l 0 0) e;
-      second = ap (λ (l : List ℕ). getD l 1 0) e;
-      third = ap (λ (l : List ℕ). getD l 2 0) e;
-      fourth = ap (λ (l : List ℕ). getD l 3 0) e;
-    }
-
--- A tag's entry and masks, as they are lent: what each of the four reads asks for.
-pub record Placed (t : List ℕ) (w tag x a b c d : ℕ) : Type 0 where
+-- A tag's entry and masks: what each of the four reads asks for.
+pub record Placed (t : List ℕ) (w tag x : ℕ) (ms : List ℕ) : Type 0 where
   pub parts : Parts t tag x
   pub first-width : x % 256 ≤ w
-  pub first-mask : a ≡ 256 ^ (x % 256) - 1
+  pub first-mask : getD ms 0 0 ≡ 256 ^ (x % 256) - 1
   pub second-after : x % 256 ≤ x / 256 % 256
   pub second-width : x / 256 % 256 - x % 256 ≤ w
-  pub second-mask : b ≡ 256 ^ (x / 256 % 256 - x % 256) - 1
+  pub second-mask : getD ms 1 0 ≡ 256 ^ (x / 256 % 256 - x % 256) - 1
   pub third-after : x / 256 % 256 ≤ x / 65536 % 256
   pub third-width : x / 65536 % 256 - x / 256 % 256 ≤ w
-  pub third-mask : c ≡ 256 ^ (x / 65536 % 256 - x / 256 % 256) - 1
+  pub third-mask : getD ms 2 0 ≡ 256 ^ (x / 65536 % 256 - x / 256 % 256) - 1
   pub fourth-after : x / 65536 % 256 ≤ x / 16777216
   pub fourth-width : x / 16777216 - x / 65536 % 256 ≤ w
-  pub fourth-mask : d ≡ 256 ^ (x / 16777216 - x / 65536 % 256) - 1
+  pub fourth-mask : getD ms 3 0 ≡ 256 ^ (x / 16777216 - x / 65536 % 256) - 1
 
-mask-of : (a v n : ℕ) → a ≡ 256 ^ v - 1 → v ≡ n → a ≡ 256 ^ n - 1
-mask-of a v n e en = e ∙ ap (λ (k : ℕ). 256 ^ k - 1) en
+-- the i-th of the masks, where the i-th width is n
+mask-of : (ms ws : List ℕ) (i n : ℕ) → ms ≡ masks ws → getD (masks ws) i 0 ≡ 256 ^ getD ws i 0 - 1 → getD ws i 0 ≡ n → getD ms i 0 ≡ 256 ^ n - 1
+mask-of ms ws i n e at en = ap (λ (l : List ℕ). getD l i 0) e ∙ at ∙ ap (λ (k : ℕ). 256 ^ k - 1) en
 
-pub placed : (t places halves : List ℕ) (w tag : ℕ) → ((f : ℕ) → getD t f 0 ≤ w) → w ≤ 8 → Places t places → Halves t halves → tag < 256
-    → Placed t w tag (getD places tag 0) (getD halves (tag % 16) 0) (getD halves (16 + tag % 16) 0) (getD halves (tag / 16) 0) (getD halves (16 + tag / 16) 0)
-placed t places halves w tag most small p q h =
-    let s = parts t places tag (λ f. le-trans (most f) small) p h in
-    let m = four-masks t halves tag q h in
+pub placed : (t : List ℕ) (w tag x : ℕ) (ms : List ℕ) → ((f : ℕ) → getD t f 0 ≤ w) → w ≤ 8 → x ≡ placeOf (widths t tag) → ms ≡ masks (widths t tag)
+    → Placed t w tag x ms
+unfolding widths
+placed t w tag x ms most small ex em =
+    let s = parts t tag x (λ f. le-trans (most f) small) ex in
+    let ws : List ℕ = widths t tag in
     let one : width t tag 0 ≤ w = most (field tag 0) in
     let two : width t tag 1 ≤ w = most (field tag 1) in
     let three : width t tag 2 ≤ w = most (field tag 2) in
@@ -85,16 +69,16 @@ placed t places halves w tag most small p q h =
     record {
       parts = s;
       first-width = omega (arith, s .second);
-      first-mask = mask-of _ _ _ (m .first) (sym (s .second));
+      first-mask = mask-of ms ws 0 _ em refl (sym (s .second));
       second-after = omega (arith, s .second, s .third);
       second-width = omega (arith, s .second, s .third);
-      second-mask = mask-of _ _ _ (m .second) (omega (arith, s .second, s .third));
+      second-mask = mask-of ms ws 1 _ em refl (omega (arith, s .second, s .third));
       third-after = omega (arith, s .third, s .fourth);
       third-width = omega (arith, s .third, s .fourth);
-      third-mask = mask-of _ _ _ (m .third) (omega (arith, s .third, s .fourth));
+      third-mask = mask-of ms ws 2 _ em refl (omega (arith, s .third, s .fourth));
       fourth-after = omega (arith, s .fourth, s .end);
       fourth-width = omega (arith, s .fourth, s .end);
-      fourth-mask = mask-of _ _ _ (m .fourth) (omega (arith, s .fourth, s .end));
+      fourth-mask = mask-of ms ws 3 _ em refl (omega (arith, s .fourth, s .end));
     }
 
 -- A number read at a place is the one behind what was dropped.

@@ -1,7 +1,8 @@
--- What the two tables hold from which the groups of the first stage are decoded, over the width table t.
+-- What the tables hold from which the groups of the first stage are decoded, over the width table t.
 use mathlib.Core.Path.{_≡_}
 use mathlib.Core.List.{List, [], _∷_}
 use Prim.Native.Nat.{ℕ, _+_, _*_, _/_, _%_, _<_}
+use lib.Bits.{bitAnd}
 use lib.ListN.{getD, take}
 use Rattle.packed.specs.Format.{total, widths}
 use Rattle.tag_utils.specs.Tables.{masks}
@@ -13,9 +14,20 @@ placeOf ws = total (take 1 ws) + 256 * total (take 2 ws) + 65536 * total (take 3
 abbrev pub Places : List ℕ → List ℕ → Type 0
 Places t places = (tag : ℕ) → tag < 256 → getD places tag 0 ≡ placeOf (widths t tag)
 
--- The masks of a tag's four numbers, by half tags of two fields: the first field's in the first 16 entries, the second's in the 16 behind.
-abbrev pub halvesOf : List ℕ → ℕ → List ℕ
-halvesOf halves tag = getD halves (tag % 16) 0 ∷ getD halves (16 + tag % 16) 0 ∷ getD halves (tag / 16) 0 ∷ getD halves (16 + tag / 16) 0 ∷ []
+-- The masks of a tag's four numbers, by half tags of two fields: the first field's at k times the half tag, the second's j behind it.
+abbrev pub halvesOf : ℕ → ℕ → List ℕ → ℕ → List ℕ
+halvesOf k j halves tag =
+    getD halves (k * (tag % 16)) 0 ∷ getD halves (k * (tag % 16) + j) 0 ∷ getD halves (k * (tag / 16)) 0 ∷ getD halves (k * (tag / 16) + j) 0 ∷ []
 
-abbrev pub Halves : List ℕ → List ℕ → Type 0
-Halves t halves = (tag : ℕ) → tag < 256 → halvesOf halves tag ≡ masks (widths t tag)
+abbrev pub Halves : List ℕ → ℕ → ℕ → List ℕ → Type 0
+Halves t k j halves = (tag : ℕ) → tag < 256 → halvesOf k j halves tag ≡ masks (widths t tag)
+
+-- The same four side by side, each what two entries have in common: of the low half's row of four, and of the high half's, 16 rows behind.
+abbrev pub common : List ℕ → ℕ → ℕ → ℕ
+common sides low high = bitAnd (getD sides low 0) (getD sides high 0)
+
+abbrev pub sidesOf : List ℕ → ℕ → ℕ → List ℕ
+sidesOf sides low high = common sides low high ∷ common sides (low + 1) (high + 1) ∷ common sides (low + 2) (high + 2) ∷ common sides (low + 3) (high + 3) ∷ []
+
+abbrev pub Sides : List ℕ → List ℕ → Type 0
+Sides t sides = (tag : ℕ) → tag < 256 → sidesOf sides (4 * (tag % 16)) (64 + 4 * (tag / 16)) ≡ masks (widths t tag)

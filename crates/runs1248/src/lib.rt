@@ -46,7 +46,7 @@ fn decode8(
 ) -> usize
     requires { ⌜ Windows t1248 (now tags) (now «data») i (i + 8) at ⌝ }
     requires { ⌜ 4 * (i + 8) ≤ length (now values) ⌝ }
-    requires { ⌜ Places t1248 (now places) × Halves t1248 (now halves) ⌝ }
+    requires { ⌜ Places t1248 (now places) × Halves t1248 1 16 (now halves) ⌝ }
     ensures { λ r. ⌜ Runs t1248 (now (tags .entry)) (now («data» .entry)) (now (values .entry)) i (i + 8) at r (now (values .exit)) ⌝ }
 {
     let mut read = at;
@@ -119,7 +119,7 @@ fn decode_deltas8(
 ) -> Ran
     requires { ⌜ Windows t1248 (now tags) (now «data») i (i + 8) at ⌝ }
     requires { ⌜ 4 * (i + 8) ≤ length (now values) ⌝ }
-    requires { ⌜ Places t1248 (now places) × Halves t1248 (now halves) ⌝ }
+    requires { ⌜ Places t1248 (now places) × Halves t1248 1 16 (now halves) ⌝ }
     ensures { λ r. ⌜ RunsDeltas t1248 (now (tags .entry)) (now («data» .entry)) (now (values .entry)) m64 i (i + 8) at (getD base 3 0) (r .read) (getD (r .base) 3 0) (now (values .exit)) ⌝ }
 {
     let mut read = at;
@@ -202,7 +202,7 @@ fn skip_deltas8(
     halves: &[u64; 32],
 ) -> Summed
     requires { ⌜ Windows t1248 (now tags) (now «data») i (i + 8) at ⌝ }
-    requires { ⌜ Places t1248 (now places) × Halves t1248 (now halves) ⌝ }
+    requires { ⌜ Places t1248 (now places) × Halves t1248 1 16 (now halves) ⌝ }
     ensures { λ r. ⌜ RunsSum t1248 (now (tags .entry)) (now («data» .entry)) m64 i (i + 8) at start (r .read) (r .sum) ⌝ }
 {
     let mut read = at;

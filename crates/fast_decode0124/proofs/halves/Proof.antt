@@ -8,12 +8,12 @@ use Rattle.fast_decode0124.proofs.halves.Tie as tie
 
 entries : List ℕ
 entries =
-    0 ∷ 255 ∷ 65535 ∷ 4294967295 ∷ 0 ∷ 255 ∷ 65535 ∷ 4294967295 ∷ 0 ∷ 255 ∷ 65535 ∷ 4294967295 ∷ 0 ∷ 255 ∷ 65535 ∷ 4294967295 ∷
-    0 ∷ 0 ∷ 0 ∷ 0 ∷ 255 ∷ 255 ∷ 255 ∷ 255 ∷ 65535 ∷ 65535 ∷ 65535 ∷ 65535 ∷ 4294967295 ∷ 4294967295 ∷ 4294967295 ∷ 4294967295 ∷ []
+    0 ∷ 0 ∷ 255 ∷ 0 ∷ 65535 ∷ 0 ∷ 4294967295 ∷ 0 ∷ 0 ∷ 255 ∷ 255 ∷ 255 ∷ 65535 ∷ 255 ∷ 4294967295 ∷ 255 ∷
+    0 ∷ 65535 ∷ 255 ∷ 65535 ∷ 65535 ∷ 65535 ∷ 4294967295 ∷ 65535 ∷ 0 ∷ 4294967295 ∷ 255 ∷ 4294967295 ∷ 65535 ∷ 4294967295 ∷ 4294967295 ∷ 4294967295 ∷ []
 
 returns : tie.Need-returns
 unfolding entries half-right widths field
-returns c = halves-right t0124 entries tt
+returns c = halves-right t0124 2 1 entries tt
 
 pub halves-spec : {M : Type 1} → statement M
 halves-spec = tie.close (tie.spec returns)

@@ -8,12 +8,12 @@ use Rattle.fast_decode1234.proofs.halves.Tie as tie
 
 entries : List ℕ
 entries =
-    255 ∷ 65535 ∷ 16777215 ∷ 4294967295 ∷ 255 ∷ 65535 ∷ 16777215 ∷ 4294967295 ∷ 255 ∷ 65535 ∷ 16777215 ∷ 4294967295 ∷ 255 ∷ 65535 ∷ 16777215 ∷ 4294967295 ∷
-    255 ∷ 255 ∷ 255 ∷ 255 ∷ 65535 ∷ 65535 ∷ 65535 ∷ 65535 ∷ 16777215 ∷ 16777215 ∷ 16777215 ∷ 16777215 ∷ 4294967295 ∷ 4294967295 ∷ 4294967295 ∷ 4294967295 ∷ []
+    255 ∷ 255 ∷ 65535 ∷ 255 ∷ 16777215 ∷ 255 ∷ 4294967295 ∷ 255 ∷ 255 ∷ 65535 ∷ 65535 ∷ 65535 ∷ 16777215 ∷ 65535 ∷ 4294967295 ∷ 65535 ∷
+    255 ∷ 16777215 ∷ 65535 ∷ 16777215 ∷ 16777215 ∷ 16777215 ∷ 4294967295 ∷ 16777215 ∷ 255 ∷ 4294967295 ∷ 65535 ∷ 4294967295 ∷ 16777215 ∷ 4294967295 ∷ 4294967295 ∷ 4294967295 ∷ []
 
 returns : tie.Need-returns
 unfolding entries half-right widths field
-returns c = halves-right t1234 entries tt
+returns c = halves-right t1234 2 1 entries tt
 
 pub halves-spec : {M : Type 1} → statement M
 halves-spec = tie.close (tie.spec returns)

@@ -13,7 +13,7 @@ entries =
 
 returns : tie.Need-returns
 unfolding entries half-right widths field
-returns c = halves-right t1248 entries tt
+returns c = halves-right t1248 1 16 entries tt
 
 pub halves-spec : {M : Type 1} → statement M
 halves-spec = tie.close (tie.spec returns)

@@ -7,15 +7,15 @@ use Rattle.packed.proofs.Ends.{group-most}
 use Rattle.packed.proofs.Runs.{Running, window, running-from, running-step, running-done}
 use Rattle.packed.specs.Format.{t0124}
 use Rattle.packed.proofs.Coders.{table0124}
-use Rattle.places.specs.Places.{Places, Halves}
+use Rattle.places.specs.Places.{Places, Sides}
 use Rattle.runs0124.proofs.decode8.Statement.{statement}
 use Rattle.runs0124.proofs.decode8.Tie as tie
 
 abbrev Inv-loop : tie.InvT-loop
-Inv-loop tags i «data» at values₀ places halves read₀ k₀ values read k = Running t0124 tags «data» values₀ i (i + 8) at (i + k) read values × Places t0124 places × Halves t0124 halves
+Inv-loop tags i «data» at values₀ places sides read₀ k₀ values read k = Running t0124 tags «data» values₀ i (i + 8) at (i + k) read values × Places t0124 places × Sides t0124 sides
 
 abbrev μ-loop : tie.MeasureT-loop
-μ-loop tags i «data» at values₀ places halves read₀ k₀ values read k = 8 - k
+μ-loop tags i «data» at values₀ places sides read₀ k₀ values read k = 8 - k
 
 loop-holds : tie.Need-loop-holds Inv-loop μ-loop
 loop-holds c = (running-from t0124 (c .before .before .before .pre .0) (c .before .before .before .pre .1 .0), c .before .before .before .pre .1 .1 .0, c .before .before .before .pre .1 .1 .1)

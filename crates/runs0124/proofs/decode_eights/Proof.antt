@@ -5,15 +5,15 @@ use native.Mathlib.Omega.{arith}
 use borrow.Author.Needs.{needs}
 use Rattle.packed.proofs.Runs.{Running, windows-part, running-start, running-part, running-done}
 use Rattle.packed.specs.Format.{t0124}
-use Rattle.places.specs.Places.{Places, Halves}
+use Rattle.places.specs.Places.{Places, Sides}
 use Rattle.runs0124.proofs.decode_eights.Statement.{statement}
 use Rattle.runs0124.proofs.decode_eights.Tie as tie
 
 abbrev Inv-loop : tie.InvT-loop
-Inv-loop tags to «data» values₀ places halves read₀ i₀ values read i = Running t0124 tags «data» values₀ 0 to 0 i read values × (to % 8 ≡ 0) × (i % 8 ≡ 0) × Places t0124 places × Halves t0124 halves
+Inv-loop tags to «data» values₀ places sides read₀ i₀ values read i = Running t0124 tags «data» values₀ 0 to 0 i read values × (to % 8 ≡ 0) × (i % 8 ≡ 0) × Places t0124 places × Sides t0124 sides
 
 abbrev μ-loop : tie.MeasureT-loop
-μ-loop tags to «data» values₀ places halves read₀ i₀ values read i = to - i
+μ-loop tags to «data» values₀ places sides read₀ i₀ values read i = to - i
 
 returns : tie.Need-returns Inv-loop μ-loop
 returns c = running-done t0124 (running-start t0124 (c .before .before .before .before .pre .0 .0) (c .before .before .before .before .pre .1)) (search needs)
@@ -21,11 +21,11 @@ returns c = running-done t0124 (running-start t0124 (c .before .before .before .
 places-requires : tie.Need-places-requires Inv-loop μ-loop
 places-requires c κs = search needs
 
-halves-requires : tie.Need-halves-requires Inv-loop μ-loop
-halves-requires c κs = search needs
+sides-requires : tie.Need-sides-requires Inv-loop μ-loop
+sides-requires c κs = search needs
 
 loop-holds : tie.Need-loop-holds Inv-loop μ-loop
-loop-holds c = (running-start t0124 (c .before .before .before .before .before .before .pre .0 .0) (c .before .before .before .before .before .before .pre .1), c .before .before .before .before .before .before .pre .0 .1, search needs, c .before .places .ensures, c .halves .ensures)
+loop-holds c = (running-start t0124 (c .before .before .before .before .before .before .pre .0 .0) (c .before .before .before .before .before .before .pre .1), c .before .before .before .before .before .before .pre .0 .1, search needs, c .before .places .ensures, c .sides .ensures)
 
 decode8-requires : tie.Need-decode8-requires Inv-loop μ-loop
 decode8-requires c κs =
@@ -62,7 +62,7 @@ decode-eights-spec =
     μ-loop
     returns
     places-requires
-    halves-requires
+    sides-requires
     loop-holds
     decode8-requires
     add-i

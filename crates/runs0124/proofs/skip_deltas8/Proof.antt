@@ -12,7 +12,7 @@ use Rattle.runs0124.proofs.skip_deltas8.Statement.{statement}
 use Rattle.runs0124.proofs.skip_deltas8.Tie as tie
 
 abbrev Inv-loop : tie.InvT-loop
-Inv-loop tags i «data» at start places halves read₀ sum₀ k₀ read sum k = RunningSum t0124 tags «data» m32 i (i + 8) at start (i + k) read sum × Places t0124 places × Halves t0124 halves
+Inv-loop tags i «data» at start places halves read₀ sum₀ k₀ read sum k = RunningSum t0124 tags «data» m32 i (i + 8) at start (i + k) read sum × Places t0124 places × Halves t0124 2 1 halves
 
 abbrev μ-loop : tie.MeasureT-loop
 μ-loop tags i «data» at start places halves read₀ sum₀ k₀ read sum k = 8 - k

@@ -11,7 +11,7 @@ use Rattle.runs0124.proofs.skip_deltas_eights.Statement.{statement}
 use Rattle.runs0124.proofs.skip_deltas_eights.Tie as tie
 
 abbrev Inv-loop : tie.InvT-loop
-Inv-loop tags to «data» places halves read₀ sum₀ i₀ read sum i = RunningSum t0124 tags «data» m32 0 to 0 0 i read sum × (to % 8 ≡ 0) × (i % 8 ≡ 0) × Places t0124 places × Halves t0124 halves
+Inv-loop tags to «data» places halves read₀ sum₀ i₀ read sum i = RunningSum t0124 tags «data» m32 0 to 0 0 i read sum × (to % 8 ≡ 0) × (i % 8 ≡ 0) × Places t0124 places × Halves t0124 2 1 halves
 
 abbrev μ-loop : tie.MeasureT-loop
 μ-loop tags to «data» places halves read₀ sum₀ i₀ read sum i = to - i

@@ -7,15 +7,15 @@ use Rattle.packed.proofs.Ends.{group-most}
 use Rattle.packed.proofs.Runs.{Running, window, running-from, running-step, running-done}
 use Rattle.packed.specs.Format.{t1234}
 use Rattle.packed.proofs.Coders.{table1234}
-use Rattle.places.specs.Places.{Places, Halves}
+use Rattle.places.specs.Places.{Places, Sides}
 use Rattle.runs1234.proofs.decode8.Statement.{statement}
 use Rattle.runs1234.proofs.decode8.Tie as tie
 
 abbrev Inv-loop : tie.InvT-loop
-Inv-loop tags i «data» at values₀ places halves read₀ k₀ values read k = Running t1234 tags «data» values₀ i (i + 8) at (i + k) read values × Places t1234 places × Halves t1234 halves
+Inv-loop tags i «data» at values₀ places sides read₀ k₀ values read k = Running t1234 tags «data» values₀ i (i + 8) at (i + k) read values × Places t1234 places × Sides t1234 sides
 
 abbrev μ-loop : tie.MeasureT-loop
-μ-loop tags i «data» at values₀ places halves read₀ k₀ values read k = 8 - k
+μ-loop tags i «data» at values₀ places sides read₀ k₀ values read k = 8 - k
 
 loop-holds : tie.Need-loop-holds Inv-loop μ-loop
 loop-holds c = (running-from t1234 (c .before .before .before .pre .0) (c .before .before .before .pre .1 .0), c .before .before .before .pre .1 .1 .0, c .before .before .before .pre .1 .1 .1)

@@ -12,7 +12,7 @@ use Rattle.runs1248.proofs.decode8.Statement.{statement}
 use Rattle.runs1248.proofs.decode8.Tie as tie
 
 abbrev Inv-loop : tie.InvT-loop
-Inv-loop tags i «data» at values₀ places halves read₀ k₀ values read k = Running t1248 tags «data» values₀ i (i + 8) at (i + k) read values × Places t1248 places × Halves t1248 halves
+Inv-loop tags i «data» at values₀ places halves read₀ k₀ values read k = Running t1248 tags «data» values₀ i (i + 8) at (i + k) read values × Places t1248 places × Halves t1248 1 16 halves
 
 abbrev μ-loop : tie.MeasureT-loop
 μ-loop tags i «data» at values₀ places halves read₀ k₀ values read k = 8 - k

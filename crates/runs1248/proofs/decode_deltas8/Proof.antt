@@ -14,7 +14,7 @@ use Rattle.runs1248.proofs.decode_deltas8.Statement.{statement}
 use Rattle.runs1248.proofs.decode_deltas8.Tie as tie
 
 abbrev Inv-loop : tie.InvT-loop
-Inv-loop tags i «data» at values₀ places halves read₀ prev₀ k₀ values read prev k = RunningDeltas t1248 tags «data» values₀ m64 i (i + 8) at (getD prev₀ 3 0) (i + k) read (getD prev 3 0) values × Places t1248 places × Halves t1248 halves
+Inv-loop tags i «data» at values₀ places halves read₀ prev₀ k₀ values read prev k = RunningDeltas t1248 tags «data» values₀ m64 i (i + 8) at (getD prev₀ 3 0) (i + k) read (getD prev 3 0) values × Places t1248 places × Halves t1248 1 16 halves
 
 abbrev μ-loop : tie.MeasureT-loop
 μ-loop tags i «data» at values₀ places halves read₀ prev₀ k₀ values read prev k = 8 - k

@@ -10,7 +10,7 @@ use Rattle.runs1248.proofs.decode_eights.Statement.{statement}
 use Rattle.runs1248.proofs.decode_eights.Tie as tie
 
 abbrev Inv-loop : tie.InvT-loop
-Inv-loop tags to «data» values₀ places halves read₀ i₀ values read i = Running t1248 tags «data» values₀ 0 to 0 i read values × (to % 8 ≡ 0) × (i % 8 ≡ 0) × Places t1248 places × Halves t1248 halves
+Inv-loop tags to «data» values₀ places halves read₀ i₀ values read i = Running t1248 tags «data» values₀ 0 to 0 i read values × (to % 8 ≡ 0) × (i % 8 ≡ 0) × Places t1248 places × Halves t1248 1 16 halves
 
 abbrev μ-loop : tie.MeasureT-loop
 μ-loop tags to «data» values₀ places halves read₀ i₀ values read i = to - i

@@ -12,7 +12,7 @@ use Rattle.runs1248.proofs.skip_deltas8.Statement.{statement}
 use Rattle.runs1248.proofs.skip_deltas8.Tie as tie
 
 abbrev Inv-loop : tie.InvT-loop
-Inv-loop tags i «data» at start places halves read₀ sum₀ k₀ read sum k = RunningSum t1248 tags «data» m64 i (i + 8) at start (i + k) read sum × Places t1248 places × Halves t1248 halves
+Inv-loop tags i «data» at start places halves read₀ sum₀ k₀ read sum k = RunningSum t1248 tags «data» m64 i (i + 8) at start (i + k) read sum × Places t1248 places × Halves t1248 1 16 halves
 
 abbrev μ-loop : tie.MeasureT-loop
 μ-loop tags i «data» at start places halves read₀ sum₀ k₀ read sum k = 8 - k
