@@ -6,6 +6,8 @@ use crate::random::Random;
 use crate::request::{perform, Call, Request};
 
 pub const MOST_GROUPS: usize = 40;
+/// Of the long cases.
+pub const LONG_GROUPS: usize = 200;
 pub const MOST_EXTRA: usize = 40;
 
 /// The numbers around which widths change, and the ends of the number types.

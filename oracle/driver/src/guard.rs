@@ -68,7 +68,7 @@ extern "C" fn touched(_number: i32) {
         let n = ENGINE_LEN.load(Ordering::Relaxed);
         text(unsafe { std::slice::from_raw_parts(name, n) });
     }
-    text(b" touched memory outside the lent buffers\nagain: compare --seed ");
+    text(b" touched memory outside the lent buffers\nagain (with --long, if it was given): compare --seed ");
     number(seed);
     text(b" --only ");
     number(index);
