@@ -1,16 +1,18 @@
 -- The bytes of four tags put together, over the width table t: where a function f of a tag's byte has halves whose sum is the tag's length
 -- but for c, which a test at each tag shows, f of four bytes side by side has the four lengths. Assumes nothing.
-use mathlib.Core.Path.{_≡_, subst}
+use mathlib.Core.Path.{_≡_, sym, subst}
 use mathlib.Core.Bool.{Bool}
 use mathlib.Core.List.{List}
-use Prim.Native.Nat.{ℕ, _+_, _*_, _≤_, _<_}
+use Prim.Native.Nat.{ℕ, _+_, _*_, _≤_, _<_, zero-le}
+use native.Mathlib.Nat.{add-zero}
 use native.Mathlib.Omega.{arith}
 use lib.Dec.{T, ltb, eqb, ltb→lt, eqb→eq}
 use lib.ListN.{length, take, drop, getD}
 use Rattle.packed.specs.Format.{field, widths, total, leValue}
 use Rattle.packed.specs.Column.{Measured}
+use Rattle.packed.specs.Refusals.{groupLimit}
 use Rattle.packed.proofs.Bytes.{Below, leValue-head, leValue-next}
-use Rattle.packed.proofs.Ends.{Table, measured-one, measured-step}
+use Rattle.packed.proofs.Ends.{Table, measured-here, measured-one, measured-step, measured-join}
 use Rattle.packed.proofs.Table.{both, both-left, both-right, every, at}
 use Rattle.tag_words.specs.Words.{word, Bytewise, halvesOf, SumsHalves}
 
@@ -62,3 +64,35 @@ module _ (t : List ℕ) (is : Table t) (f : ℕ → ℕ) (c : ℕ) (test : T (ev
       (omega arith) (len k (below (i + 1))))
       (omega arith) (len l (below (i + 2))))
       (omega arith) (len m (below (i + 3))))
+
+-- A run of so many fours from a tag on: k of them are measured.
+module _ (t : List ℕ) (is : Table t) where
+  pub record ByFours (tags : List ℕ) (from fours k len : ℕ) : Type 0 where
+    pub inside : from + 4 * fours ≤ length tags
+    pub limit : length tags ≤ groupLimit
+    pub some : k ≤ fours
+    pub measured : Measured t tags from (from + 4 * k) len
+
+  pub by-fours-start : (tags : List ℕ) (from fours : ℕ) → from + 4 * fours ≤ length tags → length tags ≤ groupLimit → ByFours tags from fours 0 0
+  by-fours-start tags from fours h limit = record {
+    inside = h;
+    limit = limit;
+    some = zero-le;
+    measured = subst (λ (n : ℕ). Measured t tags from n 0) (sym (add-zero from)) (measured-here t is tags from (omega arith));
+  }
+
+  pub by-fours-next : {tags : List ℕ} {from fours k len more : ℕ} → ByFours tags from fours k len → k < fours
+      → Measured t tags (from + 4 * k) (from + 4 * k + 4) more → ByFours tags from fours (k + 1) (len + more)
+  by-fours-next {tags} {from} {fours} {k} {len} {more} b h m =
+      let e : from + 4 * k + 4 ≡ from + 4 * (k + 1) = omega arith in
+      record {
+        inside = b .inside;
+        limit = b .limit;
+        some = omega (arith, h);
+        measured = subst (λ (n : ℕ). Measured t tags from n (len + more)) e (measured-join t is (b .measured) m);
+      }
+
+  pub by-fours-done : {tags : List ℕ} {from fours k len : ℕ} → ByFours tags from fours k len → fours ≤ k → Measured t tags from (from + 4 * fours) len
+  by-fours-done {tags} {from} {fours} {k} {len} b h =
+      let e : k ≡ fours = omega (arith, b .some, h) in
+      subst (λ (n : ℕ). Measured t tags from (from + 4 * n) len) e (b .measured)
