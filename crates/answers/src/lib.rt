@@ -1,4 +1,6 @@
 // What the calls answer, and the refusals that are told from counts alone, shared by the three coders.
+#![tactic(auto)]
+
 ghost use Rattle.std.specs.Prelude.{◌≡◌, List, [], ◌∷◌, ℕ, ◌/◌, ◌≤◌, max, length};
 ghost use Rattle.packed.specs.Format.{data_len};
 ghost use Rattle.packed.specs.Stages.{widest_group, tail_takes, tail_copied};
@@ -6,7 +8,7 @@ ghost use Rattle.packed.specs.Refusals.{Lent, Row, first_of, encoding_rows};
 ghost use Rattle.answers.specs.Meaning.{verdict_number, tested, place_of, count_rows, data_rows, limit_row, missing_row};
 
 // Why a call refused: the rows of the refusal table, in order.
-#[derive(Drop)]
+#[derive(Clone, Copy)]
 pub enum Refusal {
     NotFours,
     TooManyGroups,
@@ -18,34 +20,34 @@ pub enum Refusal {
 }
 
 // What a check of a call's arguments finds.
-#[derive(Drop)]
+#[derive(Clone, Copy)]
 pub enum Verdict {
     Accepted,
     Refused(Refusal),
 }
 
 // What encoding, decoding and measuring answer: how many bytes.
-#[derive(Drop)]
+#[derive(Clone, Copy)]
 pub enum Counted {
     Refused(Refusal),
     Count(usize),
 }
 
 // What skipping answers: how many bytes were read, and the sum of the deltas.
-#[derive(Drop)]
+#[derive(Clone, Copy)]
 pub enum Skipped32 {
     Refused(Refusal),
     Read(usize, u32),
 }
 
-#[derive(Drop)]
+#[derive(Clone, Copy)]
 pub enum Skipped64 {
     Refused(Refusal),
     Read(usize, u64),
 }
 
 // What the tightness check answers: the loose case has the place of the first number that is wider than it need be.
-#[derive(Drop)]
+#[derive(Clone, Copy)]
 pub enum Tightness {
     Refused(Refusal),
     Tight,
@@ -53,7 +55,7 @@ pub enum Tightness {
 }
 
 // What the search for a loose number finds, below the refusals: none, or the place of the first.
-#[derive(Drop)]
+#[derive(Clone, Copy)]
 pub enum Place {
     None,
     At { group: usize, position: usize },

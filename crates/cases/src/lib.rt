@@ -2,6 +2,8 @@
 // tags and data that are lent; the answer; what the buffers that the call may alter hold then. A part holds words, and a word with a star
 // stands as often as the number behind it says: `AA*3` is `AA AA AA`. What is not there is read as nothing, or as 0, so that a damaged
 // file gives a wrong answer and no panic.
+#![tactic(auto)]
+
 mod answer;
 mod text;
 

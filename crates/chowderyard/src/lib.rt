@@ -1,5 +1,7 @@
 // The library that C and Rust programs link: the calls of the three coders under plain names. C has no enums that hold values, so each
 // answer is a struct of numbers.
+#![tactic(auto)]
+
 ghost use Rattle.std.specs.Prelude.{◌≡◌, ◌<◌};
 ghost use Rattle.answers.specs.Meaning.{refusal_number, counted, skipped32, skipped64, tested};
 ghost use Rattle.chowderyard.specs.Boundary.{answered, told, position_of};
@@ -12,7 +14,7 @@ mod calls1248;
 
 // What a call answers: the number of a refusal, or 0 and then how many bytes and, for skipping, the sum of the deltas.
 #[repr(C)]
-#[derive(Drop)]
+#[derive(Clone, Copy)]
 pub struct Answer {
     pub number: u8,
     pub count: u64,
@@ -21,7 +23,7 @@ pub struct Answer {
 
 // What the tightness check answers: the number of a refusal, or 0 and then 1 where a number is loose, with its place.
 #[repr(C)]
-#[derive(Drop)]
+#[derive(Clone, Copy)]
 pub struct TightnessAnswer {
     pub number: u8,
     pub loose: u8,

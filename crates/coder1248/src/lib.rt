@@ -1,4 +1,6 @@
 // The calls of `Coder1248`. Each answers on any input: what it cannot do it refuses, by number, and then alters nothing.
+#![tactic(auto)]
+
 ghost use Rattle.std.specs.Prelude.{◌≡◌, length};
 ghost use Rattle.packed.specs.Format.{t1248, m64};
 ghost use Rattle.packed.specs.Refusals.{lent_to_decode, lent_to_read, first_of};

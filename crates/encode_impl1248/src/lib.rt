@@ -1,5 +1,7 @@
 // Whole columns of coder 1248, the encoding half of `coder_impl.rs`: of values or of their deltas. The Rust's asserts are the calls'
 // refusals, checked above.
+#![tactic(auto)]
+
 ghost use Rattle.std.specs.Prelude.{◌≡◌, ◌+◌, ◌-◌, ◌*◌, ◌≤◌, length, take, drop};
 ghost use Rattle.packed.specs.Format.{t1248, m64, steps};
 ghost use Rattle.packed.specs.Refusals.{group_limit};

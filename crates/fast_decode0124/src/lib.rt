@@ -1,6 +1,8 @@
 // A group decoded by tables, as the Rust's faster engines have their own `decode8`: one entry of the first tells where its four numbers
 // begin and where it ends, so that no read waits for the lengths before it. The masks come by half tags, from a table in which they lie
 // side by side or from a smaller one in which each is found for itself. The tables are made once for a run of eight groups and more.
+#![tactic(auto)]
+
 ghost use Rattle.std.specs.Prelude.{◌≡◌, ◌+◌, ◌≤◌, length, get_or};
 ghost use Rattle.packed.specs.Format.{t0124, m32, widths};
 ghost use Rattle.packed.specs.Group.{Decodes, DecodesDeltas, Skips};

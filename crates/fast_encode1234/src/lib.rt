@@ -1,6 +1,8 @@
 // The front of a column of coder 1234, encoded by whole words, as the Rust's `write_unaligned` does: every number is stored as four bytes,
 // and the store of the next one covers those that are not its own. What is left behind the last number, at most 3 bytes, is the caller's to
 // cover.
+#![tactic(auto)]
+
 ghost use Rattle.std.specs.Prelude.{◌≡◌, ◌+◌, ◌*◌, ◌≤◌, length, take, drop, get_or};
 ghost use Rattle.std.proofs.lemmas.List.Edits.{sets};
 ghost use Rattle.packed.specs.Format.{t1234, m32, le_bytes, steps};
@@ -17,14 +19,14 @@ const TAG_BY_ZEROS: [usize; 5] = [3, 2, 1, 0, 0];
 
 const LEN_BY_ZEROS: [usize; 5] = [4, 3, 2, 1, 1];
 
-#[derive(Drop)]
+#[derive(Clone, Copy)]
 struct TagValue {
     tag: usize,
     len: usize,
 }
 
 // The number of bytes written, and the last group, or the start where there is none.
-#[derive(Drop)]
+#[derive(Clone, Copy)]
 pub struct Front {
     pub written: usize,
     pub base: [u32; 4],

@@ -1,5 +1,7 @@
 // How many groups of a column of coder 0124 may be encoded by whole words. The words leave up to 4 bytes behind the last number that the groups
 // behind it have to cover, and a group of zeros has none: the end is looked for from behind.
+#![tactic(auto)]
+
 ghost use Rattle.std.specs.Prelude.{true, [], ◌∷◌, ◌≡◌, ◌+◌, ◌*◌, ◌≤◌, length, drop};
 ghost use Rattle.packed.specs.Format.{t0124, m32, short_width, bytes_of, steps};
 ghost use Rattle.wide_stores.specs.Wide.{Covers};

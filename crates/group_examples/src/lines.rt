@@ -2,7 +2,7 @@
 ghost use Rattle.std.specs.Prelude.{◌≡◌, ◌<◌, length};
 
 // What an encoder made of a group, in a buffer of AA bytes, from index 2 on.
-#[derive(Drop)]
+#[derive(Clone, Copy)]
 pub struct Stored {
     pub tag: u8,
     pub written: usize,
@@ -10,14 +10,14 @@ pub struct Stored {
 }
 
 // What a decoder read.
-#[derive(Drop)]
+#[derive(Clone, Copy)]
 pub struct Got {
     pub read: usize,
     pub group: [u64; 4],
 }
 
 // What a skip gave.
-#[derive(Drop)]
+#[derive(Clone, Copy)]
 pub struct Skip {
     pub read: usize,
     pub sum: u64,

@@ -43,7 +43,7 @@ pub fn tag_length_table() -> [u32; 256]
 }
 
 // The 2-bit tag value and the number of bytes used to encode a value.
-#[derive(Drop)]
+#[derive(Clone, Copy)]
 pub struct TagValue {
     pub tag: u8,
     pub len: usize,

@@ -9,21 +9,21 @@ use crate::coding_descriptor::tag_value;
 use std::num::{wrapping_add_u64, wrapping_sub_u64};
 
 // The one-byte tag for a group and the number of bytes written.
-#[derive(Drop)]
+#[derive(Clone, Copy)]
 pub struct Encoded {
     pub tag: u8,
     pub written: usize,
 }
 
 // The number of bytes read and the decoded group.
-#[derive(Drop)]
+#[derive(Clone, Copy)]
 pub struct Decoded {
     pub read: usize,
     pub group: [u64; 4],
 }
 
 // The number of bytes read and the sum of the delta values.
-#[derive(Drop)]
+#[derive(Clone, Copy)]
 pub struct Skipped {
     pub read: usize,
     pub sum: u64,

@@ -1,6 +1,8 @@
 // Replays the recorded answers of the published crate through the calls of the three coders. Prints for each coder and call how many
 // records there are and how many differ, and before that line the number of each that does, from 0 on. data/answers.bin holds 512 bytes of
 // text, the count of records, the length of the file, the records, and a check number of all bytes before it. oracle/record.py wrote it.
+#![tactic(auto)]
+
 mod layout;
 mod replay32;
 mod replay64;
@@ -12,7 +14,7 @@ fn text(s: &[u8]) {
 }
 
 // How many records there are, and how many of them differ.
-#[derive(Drop)]
+#[derive(Clone, Copy)]
 struct Tally {
     records: u64,
     differ: u64,

@@ -1,5 +1,7 @@
 // Runs over the groups from `from` up to `to`, eight at once and one by one. The bytes of a run start at `at`, and each of its groups has
 // a whole widest group's bytes before the end of the data.
+#![tactic(auto)]
+
 ghost use Rattle.std.specs.Prelude.{◌≡◌, ◌+◌, ◌*◌, ◌%◌, ◌≤◌, length, slice_index};
 ghost use Rattle.std.proofs.lemmas.List.Edits.{sets};
 ghost use Rattle.packed.specs.Format.{t0124, m32};
@@ -11,14 +13,14 @@ use raw_group0124::raw_group;
 use std::num::wrapping_add_u32;
 
 // Where a run of deltas ended in the data, and its last group, from which the next run goes on.
-#[derive(Drop)]
+#[derive(Clone, Copy)]
 pub struct Ran {
     pub read: usize,
     pub base: [u32; 4],
 }
 
 // Where a run that skips ended in the data, and the sum so far.
-#[derive(Drop)]
+#[derive(Clone, Copy)]
 pub struct Summed {
     pub read: usize,
     pub sum: u32,

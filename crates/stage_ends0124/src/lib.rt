@@ -1,4 +1,6 @@
 // Lengths of runs of tags, and where the three stages end. No data byte is looked at.
+#![tactic(auto)]
+
 ghost use Rattle.std.specs.Prelude.{◌≡◌, ◌+◌, ◌-◌, ◌*◌, ◌%◌, ◌≤◌, ◌<◌, length, drop};
 ghost use Rattle.packed.specs.Format.{t0124};
 ghost use Rattle.packed.specs.Refusals.{group_limit};
@@ -11,14 +13,14 @@ use tag_utils::tags4;
 use tag_words::{pairs, sum_of_halves, uppers};
 
 // Where a stage ends: how many groups were taken by then, and their bytes.
-#[derive(Drop)]
+#[derive(Clone, Copy)]
 pub struct End {
     pub groups: usize,
     pub read: usize,
 }
 
 // Where the eight-tag stage ends, where the single-tag stage ends, what the tail takes and what is copied for it.
-#[derive(Drop)]
+#[derive(Clone, Copy)]
 pub struct StageEnds {
     pub eights: usize,
     pub eights_read: usize,

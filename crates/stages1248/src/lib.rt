@@ -1,4 +1,6 @@
 // The three stages: eight tags at once, single tags, and the rest from a zeroed scratch.
+#![tactic(auto)]
+
 ghost use Rattle.std.specs.Prelude.{◌≡◌, ◌-◌, ◌*◌, ◌≤◌, length, drop, get_or, replicate};
 ghost use Rattle.std.proofs.lemmas.List.Edits.{sets};
 ghost use Rattle.packed.specs.Format.{t1248, m64};

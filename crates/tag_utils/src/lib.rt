@@ -1,4 +1,6 @@
 // The mask tables of `tag_utils.rs`, and tags by fours. Its length tables are constants, one in each coder's `coding_descriptor`.
+#![tactic(auto)]
+
 ghost use Rattle.std.specs.Prelude.{◌≡◌, ℕ, ◌+◌, ◌^◌, ◌-◌, ◌≤◌, ◌<◌, length, take, drop, get_or};
 ghost use Rattle.packed.specs.Format.{le_value};
 ghost use Rattle.tag_utils.specs.Tables.{masks};

@@ -1,5 +1,7 @@
 // Lengths of four tags at once, without a table: the tags are put together in one number, and their fields are added side by side in it. A
 // loop over such numbers has no load that waits for another, so the compiler takes four of them at a time.
+#![tactic(auto)]
+
 ghost use Rattle.std.specs.Prelude.{◌≡◌, ◌<◌};
 ghost use Rattle.tag_words.specs.Words.{Bytewise, uppers_of, pairs_of, SumsHalves};
 

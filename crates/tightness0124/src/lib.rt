@@ -1,4 +1,6 @@
 // The tightness check of coder 0124, below its refusals. It is ours: the Rust has none.
+#![tactic(auto)]
+
 ghost use Rattle.std.specs.Prelude.{◌≡◌, ◌+◌, ◌≤◌, length, take, drop};
 ghost use Rattle.packed.specs.Format.{t0124, le_value, data_len};
 ghost use Rattle.packed.specs.Refusals.{group_limit};

@@ -1,4 +1,6 @@
 // The count of zero bytes in front of a value, for the encoders.
+#![tactic(auto)]
+
 ghost use Rattle.std.specs.Prelude.{◌≡◌, ◌/◌};
 ghost use Rattle.std.specs.Int.Count.{count_leading_zeros};
 
