@@ -1,0 +1,6 @@
+-- `chowder_decode_0124` hands on what `coder0124::decode` promises, its answer as numbers.
+use Rattle.chowderyard.proofs.Boundary.{handed_decoded}
+use Rattle.chowderyard.proofs.calls0124.chowder_decode_0124.Goals as goal
+
+pub returns : goal.returns
+returns c = handed_decoded c.of_counted.ensures c.decode.ensures

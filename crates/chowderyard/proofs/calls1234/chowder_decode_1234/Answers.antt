@@ -1,0 +1,6 @@
+-- `chowder_decode_1234` hands on what `coder1234::decode` promises, its answer as numbers.
+use Rattle.chowderyard.proofs.Boundary.{handed_decoded}
+use Rattle.chowderyard.proofs.calls1234.chowder_decode_1234.Goals as goal
+
+pub returns : goal.returns
+returns c = handed_decoded c.of_counted.ensures c.decode.ensures

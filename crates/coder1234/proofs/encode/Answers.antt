@@ -1,0 +1,32 @@
+-- `encode` meets its contract: rows 1 to 4, and then a run over the groups.
+use mathlib.Core.List.{[]}
+use mathlib.Core.Path.{refl}
+use native.Mathlib.Omega.{arith}
+use lib.ListN.{length}
+use Rattle.packed.proofs.Coders.{table1234}
+use Rattle.packed.specs.Format.{t1234}
+use Rattle.packed.specs.Refusals.{Lent, lent_to_encode, encoding_rows}
+use Rattle.answers.proofs.Calls.{refuses, accepts, allowed, encoding-refused, encoded_all}
+use Rattle.coder1234.proofs.encode.Goals as goal
+
+pub encode_groups-requires : goal.encode_groups-requires
+encode_groups-requires c =
+    let a = c.args in
+    let l : Lent = lent_to_encode (length a.values.now) a.tags.now (length a.«data».now) in
+    let says = c.encode_verdict-verdict.ensures t1234 l refl refl refl refl refl in
+    let may = allowed t1234 a.values.now a.tags.now a.«data».now (accepts t1234 l encoding_rows [] says c.in-Accepted.is) in
+    record { groups_in_bounds = (omega (arith, may.0), omega (arith, may.1)); groups_in_bounds_2 = (omega (arith, may.2), omega (arith, may.3)) }
+
+pub returns-in-Refused : goal.returns-in-Refused
+returns-in-Refused c =
+    let a = c.args in
+    let l : Lent = lent_to_encode (length a.values.now) a.tags.now (length a.«data».now) in
+    let says = c.encode_verdict-verdict.ensures t1234 l refl refl refl refl refl in
+    encoding-refused t1234 a.values.now _ _ c.in-Refused.why (refuses t1234 l encoding_rows [] says _ c.in-Refused.is)
+
+pub returns-in-Accepted : goal.returns-in-Accepted
+returns-in-Accepted c =
+    let a = c.args in
+    let l : Lent = lent_to_encode (length a.values.now) a.tags.now (length a.«data».now) in
+    let says = c.encode_verdict-verdict.ensures t1234 l refl refl refl refl refl in
+    encoded_all t1234 a.values.now _ _ table1234 (accepts t1234 l encoding_rows [] says c.in-Accepted.is) c.encode_groups.ensures

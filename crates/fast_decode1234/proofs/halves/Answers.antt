@@ -1,0 +1,15 @@
+-- `halves` meets its contract: one test at each tag, which antt computes.
+use mathlib.Core.List.{List, [], ◌∷◌}
+use Prim.Native.Nat.{ℕ}
+use Rattle.packed.specs.Format.{t1234, field, widths}
+use Rattle.places.proofs.Tables.{half_right, halves_right}
+use Rattle.fast_decode1234.proofs.halves.Goals as goal
+
+entries : List ℕ
+entries =
+    255 ∷ 255 ∷ 65535 ∷ 255 ∷ 16777215 ∷ 255 ∷ 4294967295 ∷ 255 ∷ 255 ∷ 65535 ∷ 65535 ∷ 65535 ∷ 16777215 ∷ 65535 ∷ 4294967295 ∷ 65535 ∷
+    255 ∷ 16777215 ∷ 65535 ∷ 16777215 ∷ 16777215 ∷ 16777215 ∷ 4294967295 ∷ 16777215 ∷ 255 ∷ 4294967295 ∷ 65535 ∷ 4294967295 ∷ 16777215 ∷ 4294967295 ∷ 4294967295 ∷ 4294967295 ∷ []
+
+pub returns : goal.returns
+unfolding entries half_right widths field
+returns c = halves_right t1234 2 1 entries tt

@@ -1,0 +1,8 @@
+use Rattle.std.proofs.Common.{◌≡◌, ℕ, ◌-◌, refl, w32, rules}
+use Rattle.packed.specs.Format.{t0124}
+use Rattle.packed.proofs.Bytes.{below_fits}
+use Rattle.packed.proofs.Loops.{Encoding, encoding_start, encoding_next, encoding_done}
+use Rattle.raw_group0124.proofs.raw_group.encode.Given as goal
+
+abbrev pub invariant-loop-i : goal.invariant-loop-i
+invariant-loop-i l = Encoding t0124 l.group l.initial.output l.at 4 l.i l.tag l.written l.output

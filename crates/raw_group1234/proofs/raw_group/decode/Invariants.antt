@@ -1,0 +1,8 @@
+use Rattle.std.proofs.Common.{◌≡◌, ℕ, ◌-◌, ◌%◌, arith, rules}
+use Rattle.packed.specs.Format.{t1234}
+use Rattle.packed.proofs.Loops.{lent-width, lent_mask, Decoding, decoding_start, decoding_next, decoding_done}
+use Rattle.tag_utils.specs.Tables.{masks}
+use Rattle.raw_group1234.proofs.raw_group.decode.Given as goal
+
+abbrev pub invariant-loop-i : goal.invariant-loop-i
+invariant-loop-i l = Decoding t1234 l.input l.at l.tag 4 l.i l.rest l.read l.buf × (l.tag_len ≡ t1234) × (l.tag_max ≡ masks t1234)

@@ -1,0 +1,16 @@
+-- `word` meets its contract: four bytes, low byte first.
+use Rattle.std.proofs.Common.{ℕ, ◌+◌, List, arith, rules}
+use Rattle.packed.proofs.Bytes.{le_value_head, le_value_next}
+use Rattle.raw_group1234.proofs.raw_group.word.Goals as goal
+
+pub returns : goal.returns
+returns c =
+    let s : List ℕ = c.args.input.now in
+    let at : ℕ = c.args.at in
+    omega (
+      arith,
+      le_value_head 3 at s (omega arith),
+      le_value_next 2 at 1 s (omega arith),
+      le_value_next 1 at 2 s (omega arith),
+      le_value_next 0 at 3 s (omega arith),
+    )

@@ -1,0 +1,8 @@
+use Rattle.std.proofs.Common.{◌≡◌, ℕ, ◌-◌, ◌%◌, arith, rules}
+use Rattle.packed.specs.Format.{t1248}
+use Rattle.packed.proofs.Loops.{lent-width, lent_mask, Decoding, decoding_start, decoding_next, decoding_done}
+use Rattle.tag_utils.specs.Tables.{masks}
+use Rattle.raw_group1248.proofs.raw_group.decode.Given as goal
+
+abbrev pub invariant-loop-i : goal.invariant-loop-i
+invariant-loop-i l = Decoding t1248 l.input l.at l.tag 8 l.i l.rest l.read l.buf × (l.tag_len ≡ t1248) × (l.tag_max ≡ masks t1248)

@@ -1,0 +1,17 @@
+-- `encode` meets its contract: by the laws of its loop.
+use Rattle.std.proofs.Common.{◌≡◌, ℕ, ◌-◌, refl, w64, rules}
+use Rattle.packed.specs.Format.{t1248}
+use Rattle.packed.proofs.Bytes.{below_fits}
+use Rattle.packed.proofs.Loops.{Encoding, encoding_start, encoding_next, encoding_done}
+use Rattle.raw_group1248.proofs.raw_group.encode.Goals as goal
+
+pub loop-i-init : goal.loop-i-init
+loop-i-init c = encoding_start t1248 _ _ _ 8 refl (search rules) (below_fits w64 c.args.group (λ i. search rules))
+
+pub loop-i-preserved : goal.loop-i-preserved
+loop-i-preserved c =
+    encoding_next _ _ c.store.new.output c.loop-i.invariant c.loop-i-test.true (search rules)
+    c.tag_value-vt.ensures c.store.ensures
+
+pub returns : goal.returns
+returns c = encoding_done c.loop-i.invariant (search rules) c.loop-i-test.false

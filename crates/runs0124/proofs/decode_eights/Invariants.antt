@@ -1,0 +1,11 @@
+use Rattle.std.proofs.Common.{◌≡◌, ◌+◌, ◌-◌, ◌%◌, arith, rules}
+use Rattle.packed.proofs.Runs.{Running, windows_part, running_start, running_part, running_done}
+use Rattle.packed.specs.Format.{t0124}
+use Rattle.places.specs.Places.{Places, Sides}
+use Rattle.runs0124.proofs.decode_eights.Given as goal
+
+abbrev pub invariant-loop-i : goal.invariant-loop-i
+invariant-loop-i l = Running t0124 l.tags l.«data» l.initial.values 0 l.to 0 l.i l.read l.values × (l.to % 8 ≡ 0) × (l.i % 8 ≡ 0) × Places t0124 l.places × Sides t0124 l.sides
+
+abbrev pub decreases-loop-i : goal.decreases-loop-i
+decreases-loop-i l = l.to - l.i

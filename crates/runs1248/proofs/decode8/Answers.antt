@@ -1,0 +1,54 @@
+-- `decode8` meets its contract: by the laws of its loop.
+use Rattle.std.proofs.Common.{◌+◌, ◌-◌, get_or, arith, rules}
+use Rattle.packed.proofs.Ends.{group_most}
+use Rattle.packed.proofs.Runs.{Running, window, running_from, running_step, running_done}
+use Rattle.packed.specs.Format.{t1248}
+use Rattle.packed.proofs.Coders.{table1248}
+use Rattle.places.specs.Places.{Places, Halves}
+use Rattle.runs1248.proofs.decode8.Goals as goal
+
+pub loop-k-init : goal.loop-k-init
+loop-k-init c = (running_from t1248 c.requires.windows c.requires.i_in_bounds, c.requires.places.0, c.requires.places.1)
+
+pub overflow_add-i : goal.overflow_add-i
+overflow_add-i c = omega (arith, c.loop-k.invariant.0.way.windows.tags_there)
+
+pub bounds-tags-i : goal.bounds-tags-i
+bounds-tags-i c = omega (arith, c.loop-k.invariant.0.way.windows.tags_there)
+
+pub decode-d-requires : goal.decode-d-requires
+decode-d-requires c =
+    let s = c.loop-k.invariant in
+    record { at_in_bounds = window t1248 s.0.way (omega arith); places = (s.1, s.2) }
+
+pub overflow_add-i-in-loop-k : goal.overflow_add-i-in-loop-k
+overflow_add-i-in-loop-k c = omega (arith, c.loop-k.invariant.0.way.windows.tags_there)
+
+pub overflow_mul-i : goal.overflow_mul-i
+overflow_mul-i c = omega (arith, c.loop-k.invariant.0.room)
+
+pub store_group-requires : goal.store_group-requires
+store_group-requires c = omega (arith, c.loop-k.invariant.0.room)
+
+pub overflow_add-read : goal.overflow_add-read
+overflow_add-read c =
+    let s = c.loop-k.invariant in
+    omega (
+      arith,
+      window t1248 s.0.way (omega arith),
+      c.decode-d.ensures.read,
+      group_most t1248 table1248 (get_or c.args.tags.now (c.args.i + c.loop-k.k) 0),
+    )
+
+pub loop-k-preserved : goal.loop-k-preserved
+loop-k-preserved c =
+    let s = c.loop-k.invariant in
+    let d = c.decode-d in (
+      running_step t1248 c.args.i c.loop-k.k d.result.read d.result.group c.store_group.new.values s.0 (omega arith) d.ensures
+          c.store_group.ensures,
+      s.1,
+      s.2,
+    )
+
+pub returns : goal.returns
+returns c = running_done t1248 c.loop-k.invariant.0 (omega arith)

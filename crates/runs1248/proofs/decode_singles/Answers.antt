@@ -1,0 +1,48 @@
+-- `decode_singles` meets its contract: by the laws of its loop.
+use Rattle.std.proofs.Common.{◌≡◌, ◌-◌, get_or, arith, rules}
+use Rattle.packed.proofs.Ends.{group_most}
+use Rattle.packed.proofs.Runs.{Running, window, running_start, running_next, running_done}
+use Rattle.packed.specs.Format.{t1248}
+use Rattle.packed.proofs.Coders.{table1248}
+use Rattle.tag_utils.specs.Tables.{masks}
+use Rattle.runs1248.proofs.decode_singles.Goals as goal
+
+pub loop-i-init : goal.loop-i-init
+loop-i-init c = (running_start t1248 c.requires.windows c.requires.to_in_bounds, c.requires.tag_len_value.0, c.requires.tag_len_value.1)
+
+pub bounds-tags-i : goal.bounds-tags-i
+bounds-tags-i c = omega (arith, c.loop-i.invariant.0.way.windows.tags_there)
+
+pub decode-d-requires : goal.decode-d-requires
+decode-d-requires c =
+    let s = c.loop-i.invariant in
+    record { at_in_bounds = window t1248 s.0.way c.loop-i-test.true; tag_len_value = (s.1, s.2) }
+
+pub overflow_mul-i : goal.overflow_mul-i
+overflow_mul-i c = omega (arith, c.loop-i.invariant.0.room)
+
+pub store_group-requires : goal.store_group-requires
+store_group-requires c = omega (arith, c.loop-i.invariant.0.room)
+
+pub overflow_add-read : goal.overflow_add-read
+overflow_add-read c =
+    let s = c.loop-i.invariant in
+    omega (
+      arith,
+      window t1248 s.0.way c.loop-i-test.true,
+      c.decode-d.ensures.read,
+      group_most t1248 table1248 (get_or c.args.tags.now c.loop-i.i 0),
+    )
+
+pub loop-i-preserved : goal.loop-i-preserved
+loop-i-preserved c =
+    let s = c.loop-i.invariant in
+    let d = c.decode-d in (
+      running_next t1248 d.result.read d.result.group c.store_group.new.values s.0 c.loop-i-test.true d.ensures
+          c.store_group.ensures,
+      s.1,
+      s.2,
+    )
+
+pub returns : goal.returns
+returns c = running_done t1248 c.loop-i.invariant.0 c.loop-i-test.false

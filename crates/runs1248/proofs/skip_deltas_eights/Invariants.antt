@@ -1,0 +1,11 @@
+use Rattle.std.proofs.Common.{◌≡◌, ◌+◌, ◌-◌, ◌%◌, arith, lit<, rules}
+use Rattle.packed.proofs.Runs.{RunningSum, windows_part, running_sum_start, running_sum_part, running_sum_done}
+use Rattle.packed.specs.Format.{t1248, m64}
+use Rattle.places.specs.Places.{Places, Halves}
+use Rattle.runs1248.proofs.skip_deltas_eights.Given as goal
+
+abbrev pub invariant-loop-i : goal.invariant-loop-i
+invariant-loop-i l = RunningSum t1248 l.tags l.«data» m64 0 l.to 0 0 l.i l.read l.sum × (l.to % 8 ≡ 0) × (l.i % 8 ≡ 0) × Places t1248 l.places × Halves t1248 1 16 l.halves
+
+abbrev pub decreases-loop-i : goal.decreases-loop-i
+decreases-loop-i l = l.to - l.i

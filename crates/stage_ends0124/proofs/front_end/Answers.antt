@@ -1,0 +1,19 @@
+-- `front_end` meets its contract: the fours of its eights, or none.
+use mathlib.Core.Path.{◌≡◌, refl, subst}
+use Prim.Native.Nat.{ℕ, ◌+◌, ◌*◌, ◌/◌, zero-le}
+use native.Mathlib.Omega.{arith}
+use Rattle.packed.proofs.Ends.{measured_here}
+use Rattle.packed.specs.Column.{Measured}
+use Rattle.packed.specs.Format.{t0124}
+use Rattle.packed.proofs.Coders.{table0124}
+use Rattle.stage_ends0124.proofs.front_end.Goals as goal
+
+pub returns-then-data-read : goal.returns-then-data-read
+returns-then-data-read c = record { measured = (measured_here t0124 table0124 _ 0 zero-le, refl); t0124_in_bounds = λ none. absurd (omega arith) }
+
+pub returns : goal.returns
+returns c =
+    let fours = c.data_len_fours-read in
+    let n : ℕ = c.saturating_sub-eights.result / 8 in
+    let e : 0 + 4 * (2 * n) ≡ 8 * n = omega arith in
+    record { measured = (subst (λ (k : ℕ). Measured t0124 c.args.tags.now 0 k fours.result) e fours.ensures, omega arith); t0124_in_bounds = λ some. c.if-data-read.false }

@@ -1,0 +1,14 @@
+use mathlib.Core.Path.{◌≡◌, subst}
+use Prim.Native.Nat.{ℕ, ◌-◌, ◌≤◌}
+use native.Mathlib.Omega.{arith}
+use lib.ListN.{length, get_or}
+use Rattle.packed.proofs.Ends.{group_most, measured_one, measured_join}
+use Rattle.packed.specs.Column.{Measured}
+use Rattle.packed.specs.Format.{t1234}
+use Rattle.packed.specs.Refusals.{group_limit}
+use Rattle.packed.proofs.Coders.{table1234}
+use Rattle.tag_utils.specs.Tables.{Lengths}
+use Rattle.stage_ends1234.proofs.data_len_from.Given as goal
+
+abbrev pub invariant-loop-i : goal.invariant-loop-i
+invariant-loop-i l = (length l.tags ≤ group_limit) × Measured t1234 l.tags l.from l.i l.len × Lengths t1234 l.lens

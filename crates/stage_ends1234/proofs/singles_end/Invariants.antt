@@ -1,0 +1,14 @@
+use Prim.Native.Nat.{◌-◌}
+use native.Mathlib.Omega.{arith}
+use lib.ListN.{length, get_or}
+use Rattle.packed.proofs.Ends.{group_most, AtSingles, at_singles_start, at_singles_next, at_singles_stop, at_singles_out}
+use Rattle.packed.specs.Format.{t1234}
+use Rattle.packed.proofs.Coders.{table1234}
+use Rattle.tag_utils.specs.Tables.{Lengths}
+use Rattle.stage_ends1234.proofs.singles_end.Given as goal
+
+abbrev pub invariant-loop-i : goal.invariant-loop-i
+invariant-loop-i l = AtSingles t1234 table1234 l.tags l.«data» l.initial.i l.initial.read l.i l.read × Lengths t1234 l.lens
+
+abbrev pub decreases-loop-i : goal.decreases-loop-i
+decreases-loop-i l = length l.tags - l.i

@@ -1,0 +1,9 @@
+use mathlib.Core.Path.{◌≡◌, refl}
+use Prim.Native.Nat.{◌-◌, ◌≤◌}
+use native.Mathlib.Omega.{arith}
+use lib.ListN.{length, length-set}
+use Rattle.packed.proofs.Columns.{Copying, copying_start, copying_next, copying_done}
+use Rattle.stages1234.proofs.scratch.Given as goal
+
+abbrev pub invariant-loop-k : goal.invariant-loop-k
+invariant-loop-k l = Copying l.«data» l.read l.k l.buf × (l.k_end ≡ length l.«data» - l.read) × (length l.«data» - l.read ≤ 64) × (length l.buf ≡ 64)

@@ -1,0 +1,28 @@
+-- `skip_deltas_stages` meets its contract: three runs, one behind the other.
+use Prim.Native.Nat.{zero-le}
+use native.Mathlib.Omega.{arith}
+use Rattle.packed.proofs.Columns.{sum_join_runs}
+use Rattle.packed.proofs.Ends.{first-stage, second-start, tail-start, eights-whole, eights-before, groups-in, all-groups}
+use Rattle.packed.specs.Format.{t1248}
+use Rattle.packed.proofs.Coders.{table1248}
+use Rattle.stages1248.proofs.skip_deltas_stages.Goals as goal
+
+pub skip_deltas_eights-first-requires : goal.skip_deltas_eights-first-requires
+skip_deltas_eights-first-requires c = (first-stage t1248 table1248 _ _ c.requires.ends.0, eights-whole t1248 table1248 _ _ c.requires.ends.0)
+
+pub skip_deltas_singles-second-requires : goal.skip_deltas_singles-second-requires
+skip_deltas_singles-second-requires c = record { windows = second-start t1248 table1248 _ _ c.requires.ends.0 _ c.skip_deltas_eights-first.ensures.read; tag_len_value = c.requires.tag_len_value }
+
+pub skip_deltas_tail-requires : goal.skip_deltas_tail-requires
+skip_deltas_tail-requires c = record { tail = tail-start t1248 table1248 _ _ c.requires.ends.0 _ _ c.skip_deltas_eights-first.ensures.read c.skip_deltas_singles-second.ensures.read c.if-groups-tags.true c.requires.ends.1; tag_len_value = c.requires.tag_len_value }
+
+pub returns-then-groups-tags : goal.returns-then-groups-tags
+returns-then-groups-tags c =
+    sum_join_runs t1248 _ _ zero-le (groups-in t1248 table1248 _ _ c.requires.ends.0) (groups-in t1248 table1248 _ _ c.requires.ends.0)
+    (sum_join_runs t1248 _ _ zero-le (eights-before t1248 table1248 _ _ c.requires.ends.0) (first-stage t1248 table1248 _ _ c.requires.ends.0).tags_there c.skip_deltas_eights-first.ensures c.skip_deltas_singles-second.ensures)
+    c.skip_deltas_tail.ensures
+
+pub returns : goal.returns
+returns c =
+    rw (all-groups t1248 table1248 _ _ c.requires.ends.0 c.if-groups-tags.false) at
+    (sum_join_runs t1248 _ _ zero-le (eights-before t1248 table1248 _ _ c.requires.ends.0) (first-stage t1248 table1248 _ _ c.requires.ends.0).tags_there c.skip_deltas_eights-first.ensures c.skip_deltas_singles-second.ensures)

@@ -1,0 +1,17 @@
+-- `skip_deltas_tail` meets its contract: the run over the scratch is the run over the data.
+use Rattle.std.proofs.Common.{rules}
+use lib.Dec.{lit≤}
+use Rattle.packed.proofs.Columns.{tail_same, sum_moved}
+use Rattle.packed.proofs.Ends.{tail_windows}
+use Rattle.packed.specs.Format.{t1248}
+use Rattle.packed.proofs.Coders.{table1248}
+use Rattle.stages1248.proofs.skip_deltas_tail.Goals as goal
+
+pub skip_deltas_singles-rest-requires : goal.skip_deltas_singles-rest-requires
+skip_deltas_singles-rest-requires c = record { windows = tail_windows t1248 table1248 _ _ _ _ _ c.requires.tail (search rules) (lit≤ tt); tag_len_value = c.requires.tag_len_value }
+
+pub returns : goal.returns
+returns c =
+    sum_moved t1248 _ _ _ _ _ _
+    (tail_same t1248 _ _ _ _ _ c.requires.tail c.scratch-buf.ensures (lit≤ tt))
+    c.skip_deltas_singles-rest.ensures

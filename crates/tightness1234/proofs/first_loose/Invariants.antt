@@ -1,0 +1,16 @@
+use mathlib.Core.Path.{◌≡◌, refl, sym, ◌∙◌}
+use Prim.Native.Nat.{◌-◌}
+use native.Mathlib.Omega.{arith}
+use lib.ListN.{length}
+use Rattle.packed.specs.Calls.{tight}
+use Rattle.packed.specs.Format.{t1234}
+use Rattle.packed.proofs.Loops.{lent-width}
+use Rattle.packed.proofs.Tight.{AtGroup, AtNumber, at_group_start, at_group_done, at_number_start, at_number_there, at_number_next, at_number_loose, at_number_done}
+use Rattle.answers.specs.Meaning.{place_of}
+use Rattle.tightness1234.proofs.first_loose.Given as goal
+
+abbrev pub invariant-loop-p : goal.invariant-loop-p
+invariant-loop-p l = AtNumber t1234 l.tags l.«data» l.i l.p l.rest l.at × (place_of l.found ≡ tight) × (l.i_end ≡ length l.tags) × (l.tag_len ≡ t1234)
+
+abbrev pub invariant-groups : goal.invariant-groups
+invariant-groups l = AtGroup t1234 l.tags l.«data» l.i l.at × (place_of l.found ≡ tight) × (l.i_end ≡ length l.tags) × (l.tag_len ≡ t1234)

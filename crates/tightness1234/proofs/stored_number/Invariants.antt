@@ -1,0 +1,9 @@
+use native.Mathlib.Omega.{arith}
+use Rattle.packed.proofs.Tight.{Gathering, gathering_start, gathering_next, gathering_next_fits, gathering_done}
+use Rattle.tightness1234.proofs.stored_number.Given as goal
+
+abbrev pub invariant-loop-k : goal.invariant-loop-k
+invariant-loop-k l = Gathering l.«data» l.at l.len l.k l.value
+
+abbrev pub decreases-loop-k : goal.decreases-loop-k
+decreases-loop-k l = l.k
