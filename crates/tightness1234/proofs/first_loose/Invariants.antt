@@ -10,7 +10,7 @@ use Rattle.answers.specs.Meaning.{place_of}
 use Rattle.tightness1234.proofs.first_loose.Given as goal
 
 abbrev pub invariant-loop-p : goal.invariant-loop-p
-invariant-loop-p l = AtNumber t1234 l.tags l.«data» l.i l.p l.rest l.at × (place_of l.found ≡ tight) × (l.i_end ≡ length l.tags) × (l.tag_len ≡ t1234)
+invariant-loop-p l = AtNumber t1234 l.tags l.«data» l.i l.p l.rest l.at × (place_of l.found ≡ tight) × (l.i-end ≡ length l.tags) × (l.tag_len ≡ t1234)
 
 abbrev pub invariant-groups : goal.invariant-groups
-invariant-groups l = AtGroup t1234 l.tags l.«data» l.i l.at × (place_of l.found ≡ tight) × (l.i_end ≡ length l.tags) × (l.tag_len ≡ t1234)
+invariant-groups l = AtGroup t1234 l.tags l.«data» l.i l.at × (place_of l.found ≡ tight) × (l.i-end ≡ length l.tags) × (l.tag_len ≡ t1234)

@@ -9,16 +9,14 @@ loop-k-init c = gathering_start _ _ _ (search rules)
 
 pub overflow_mul-value : goal.overflow_mul-value
 overflow_mul-value c =
-    let known = c.shared_slice_known-1 in
-    omega (arith, gathering_next_fits 4 c.loop-k.invariant c.loop-k-test.true (λ i. (known.given i).fits) (search rules))
+    omega (arith, gathering_next_fits 4 c.loop-k.invariant c.loop-k-test.true (λ i. (c.type_inv.«data» i).fits) (search rules))
 
 pub overflow_add-value : goal.overflow_add-value
 overflow_add-value c =
-    let known = c.shared_slice_known-1 in
     omega (
       arith,
       c.wide.ensures,
-      gathering_next_fits 4 c.loop-k.invariant c.loop-k-test.true (λ i. (known.given i).fits) (search rules),
+      gathering_next_fits 4 c.loop-k.invariant c.loop-k-test.true (λ i. (c.type_inv.«data» i).fits) (search rules),
     )
 
 pub loop-k-preserved : goal.loop-k-preserved
