@@ -6,4 +6,4 @@ use Rattle.packed.proofs.Columns.{Copying, copying_start, copying_next, copying_
 use Rattle.stages1248.proofs.scratch.Given as goal
 
 abbrev pub invariant-loop-k : goal.invariant-loop-k
-invariant-loop-k l = Copying l.«data» l.read l.k l.buf × (l.k_end ≡ length l.«data» - l.read) × (length l.«data» - l.read ≤ 64) × (length l.buf ≡ 64)
+invariant-loop-k l = Copying l.«data» l.read l.k l.buf × (l.k-end ≡ length l.«data» - l.read) × (length l.«data» - l.read ≤ 64) × (length l.buf ≡ 64)
