@@ -28,7 +28,7 @@ fn encode(output: &mut [u8], at: usize, group: [u32; 4]) -> Encoded
 // Groups so stored.
 fn encode_exactly(values: &[u32], groups: usize, tags: &mut [u8], data: &mut [u8]) -> usize
     requires groups_in_bounds { (4 * groups ≤ length values.now) × (groups ≤ group_limit) }
-    requires groups_in_bounds_2 { (groups ≤ length tags.old) × (16 * groups ≤ length «data».old) }
+    requires room { (groups ≤ length tags.old) × (16 * groups ≤ length «data».old) }
     ensures { RunsEncode t0124 values.now tags.old «data».old groups result tags.new «data».new }
 {
     let mut written = 0usize;
@@ -46,7 +46,7 @@ fn encode_exactly(values: &[u32], groups: usize, tags: &mut [u8], data: &mut [u8
 // have four bytes or more are looked for: they are stored exactly, and cover them.
 pub fn encode_groups(values: &[u32], groups: usize, tags: &mut [u8], data: &mut [u8]) -> usize
     requires groups_in_bounds { (4 * groups ≤ length values.now) × (groups ≤ group_limit) }
-    requires groups_in_bounds_2 { (groups ≤ length tags.old) × (16 * groups ≤ length «data».old) }
+    requires room { (groups ≤ length tags.old) × (16 * groups ≤ length «data».old) }
     ensures { RunsEncode t0124 values.now tags.old «data».old groups result tags.new «data».new }
 {
     let front = front_end(values, groups);
@@ -70,7 +70,7 @@ fn encode_deltas_exactly(
     data: &mut [u8],
 ) -> usize
     requires groups_in_bounds { (4 * groups ≤ length values.now) × (groups ≤ group_limit) }
-    requires groups_in_bounds_2 { (groups ≤ length tags.old) × (16 * groups ≤ length «data».old) }
+    requires room { (groups ≤ length tags.old) × (16 * groups ≤ length «data».old) }
     ensures { RunsEncode t0124 (steps m32 initial values.now) tags.old «data».old groups result tags.new «data».new }
 {
     let mut written = 0usize;
@@ -93,7 +93,7 @@ pub fn encode_deltas_groups(
     data: &mut [u8],
 ) -> usize
     requires groups_in_bounds { (4 * groups ≤ length values.now) × (groups ≤ group_limit) }
-    requires groups_in_bounds_2 { (groups ≤ length tags.old) × (16 * groups ≤ length «data».old) }
+    requires room { (groups ≤ length tags.old) × (16 * groups ≤ length «data».old) }
     ensures { RunsEncode t0124 (steps m32 initial values.now) tags.old «data».old groups result tags.new «data».new }
 {
     let front = deltas_front_end(initial, values, groups);

@@ -19,7 +19,7 @@ fn saturating_sub(a: usize, b: usize) -> usize
 // Groups stored byte by byte, with no byte that is not their own.
 fn encode_exactly(values: &[u64], groups: usize, tags: &mut [u8], data: &mut [u8]) -> usize
     requires groups_in_bounds { (4 * groups ≤ length values.now) × (groups ≤ group_limit) }
-    requires groups_in_bounds_2 { (groups ≤ length tags.old) × (32 * groups ≤ length «data».old) }
+    requires room { (groups ≤ length tags.old) × (32 * groups ≤ length «data».old) }
     ensures { RunsEncode t1248 values.now tags.old «data».old groups result tags.new «data».new }
 {
     let mut written = 0usize;
@@ -37,7 +37,7 @@ fn encode_exactly(values: &[u64], groups: usize, tags: &mut [u8], data: &mut [u8
 // they are stored exactly, and cover them.
 pub fn encode_groups(values: &[u64], groups: usize, tags: &mut [u8], data: &mut [u8]) -> usize
     requires groups_in_bounds { (4 * groups ≤ length values.now) × (groups ≤ group_limit) }
-    requires groups_in_bounds_2 { (groups ≤ length tags.old) × (32 * groups ≤ length «data».old) }
+    requires room { (groups ≤ length tags.old) × (32 * groups ≤ length «data».old) }
     ensures { RunsEncode t1248 values.now tags.old «data».old groups result tags.new «data».new }
 {
     let front = saturating_sub(groups, 2);
@@ -61,7 +61,7 @@ fn encode_deltas_exactly(
     data: &mut [u8],
 ) -> usize
     requires groups_in_bounds { (4 * groups ≤ length values.now) × (groups ≤ group_limit) }
-    requires groups_in_bounds_2 { (groups ≤ length tags.old) × (32 * groups ≤ length «data».old) }
+    requires room { (groups ≤ length tags.old) × (32 * groups ≤ length «data».old) }
     ensures { RunsEncode t1248 (steps m64 initial values.now) tags.old «data».old groups result tags.new «data».new }
 {
     let mut written = 0usize;
@@ -84,7 +84,7 @@ pub fn encode_deltas_groups(
     data: &mut [u8],
 ) -> usize
     requires groups_in_bounds { (4 * groups ≤ length values.now) × (groups ≤ group_limit) }
-    requires groups_in_bounds_2 { (groups ≤ length tags.old) × (32 * groups ≤ length «data».old) }
+    requires room { (groups ≤ length tags.old) × (32 * groups ≤ length «data».old) }
     ensures { RunsEncode t1248 (steps m64 initial values.now) tags.old «data».old groups result tags.new «data».new }
 {
     let front = saturating_sub(groups, 2);

@@ -117,7 +117,7 @@ fn side_masks(tag: u8, sides: &[u32; 128]) -> [u32; 4]
 // The four numbers at their places. The tag and the lengths are for the promise alone: no instruction is left of them.
 fn numbers(input: &[u8], at: usize, tag: u8, place: u32, mask: [u32; 4]) -> Decoded
     requires at_in_bounds { at + 16 ≤ length input.now }
-    requires place_value { (place ≡ place_of (widths t0124 tag)) × (mask ≡ masks (widths t0124 tag)) }
+    requires entries { (place ≡ place_of (widths t0124 tag)) × (mask ≡ masks (widths t0124 tag)) }
     ensures { Decodes t0124 input.now at tag result.read result.group }
 {
     let second = (place % 256) as usize;

@@ -114,7 +114,7 @@ fn half_masks(tag: u8, halves: &[u64; 32]) -> [u64; 4]
 // The four numbers at their places. The tag and the lengths are for the promise alone: no instruction is left of them.
 fn numbers(input: &[u8], at: usize, tag: u8, place: u32, mask: [u64; 4]) -> Decoded
     requires at_in_bounds { at + 32 ≤ length input.now }
-    requires place_value { (place ≡ place_of (widths t1248 tag)) × (mask ≡ masks (widths t1248 tag)) }
+    requires entries { (place ≡ place_of (widths t1248 tag)) × (mask ≡ masks (widths t1248 tag)) }
     ensures { Decodes t1248 input.now at tag result.read result.group }
 {
     let second = (place % 256) as usize;

@@ -100,7 +100,7 @@ fn encode(
 // The first groups of values, where each has room for the widest group. Returns the number of bytes written.
 pub fn encode_front(values: &[u32], groups: usize, tags: &mut [u8], data: &mut [u8]) -> usize
     requires groups_in_bounds { (4 * groups ≤ length values.now) × (groups ≤ group_limit) }
-    requires groups_in_bounds_2 { (groups ≤ length tags.old) × (16 * groups ≤ length «data».old) }
+    requires room { (groups ≤ length tags.old) × (16 * groups ≤ length «data».old) }
     ensures { RunsWide t1234 3 values.now tags.old «data».old groups result tags.new «data».new }
 {
     let tag_by_zeros = TAG_BY_ZEROS;
@@ -124,7 +124,7 @@ pub fn encode_deltas_front(
     data: &mut [u8],
 ) -> Front
     requires groups_in_bounds { (4 * groups ≤ length values.now) × (groups ≤ group_limit) }
-    requires groups_in_bounds_2 { (groups ≤ length tags.old) × (16 * groups ≤ length «data».old) }
+    requires room { (groups ≤ length tags.old) × (16 * groups ≤ length «data».old) }
     ensures { RunsWideSteps t1234 3 m32 initial values.now tags.old «data».old groups result.written (get_or result.base 3 0) tags.new «data».new }
 {
     let tag_by_zeros = TAG_BY_ZEROS;

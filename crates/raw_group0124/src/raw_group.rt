@@ -107,7 +107,7 @@ pub fn number(input: &[u8], at: usize, len: usize, mask: u32) -> u32
 // Decode the contents of the group with tag from input, from at on, where the widest group would be there.
 pub fn decode(input: &[u8], at: usize, tag: u8, tag_len: &[usize; 4], tag_max: &[u32; 4]) -> Decoded
     requires at_in_bounds { at + 16 ≤ length input.now }
-    requires tag_len_value { (tag_len.now ≡ t0124) × (tag_max.now ≡ masks t0124) }
+    requires tables { (tag_len.now ≡ t0124) × (tag_max.now ≡ masks t0124) }
     ensures { Decodes t0124 input.now at tag result.read result.group }
 {
     let mut buf = [0u32; 4];
@@ -143,7 +143,7 @@ pub fn decode_deltas(
     tag_max: &[u32; 4],
 ) -> Decoded
     requires at_in_bounds { at + 16 ≤ length input.now }
-    requires tag_len_value { (tag_len.now ≡ t0124) × (tag_max.now ≡ masks t0124) }
+    requires tables { (tag_len.now ≡ t0124) × (tag_max.now ≡ masks t0124) }
     ensures { DecodesDeltas t0124 input.now m32 at tag (slice_index base 3) result.read result.group }
 {
     let d = decode(input, at, tag, tag_len, tag_max);
@@ -174,7 +174,7 @@ pub fn skip_deltas(
     tag_max: &[u32; 4],
 ) -> Skipped
     requires at_in_bounds { at + 16 ≤ length input.now }
-    requires tag_len_value { (tag_len.now ≡ t0124) × (tag_max.now ≡ masks t0124) }
+    requires tables { (tag_len.now ≡ t0124) × (tag_max.now ≡ masks t0124) }
     ensures { Skips t0124 input.now m32 at tag result.read result.sum }
 {
     let d = decode(input, at, tag, tag_len, tag_max);

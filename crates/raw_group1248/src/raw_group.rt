@@ -111,7 +111,7 @@ pub fn number(input: &[u8], at: usize, len: usize, mask: u64) -> u64
 // Decode the contents of the group with tag from input, from at on, where the widest group would be there.
 pub fn decode(input: &[u8], at: usize, tag: u8, tag_len: &[usize; 4], tag_max: &[u64; 4]) -> Decoded
     requires at_in_bounds { at + 32 ≤ length input.now }
-    requires tag_len_value { (tag_len.now ≡ t1248) × (tag_max.now ≡ masks t1248) }
+    requires tables { (tag_len.now ≡ t1248) × (tag_max.now ≡ masks t1248) }
     ensures { Decodes t1248 input.now at tag result.read result.group }
 {
     let mut buf = [0u64; 4];
@@ -147,7 +147,7 @@ pub fn decode_deltas(
     tag_max: &[u64; 4],
 ) -> Decoded
     requires at_in_bounds { at + 32 ≤ length input.now }
-    requires tag_len_value { (tag_len.now ≡ t1248) × (tag_max.now ≡ masks t1248) }
+    requires tables { (tag_len.now ≡ t1248) × (tag_max.now ≡ masks t1248) }
     ensures { DecodesDeltas t1248 input.now m64 at tag (slice_index base 3) result.read result.group }
 {
     let d = decode(input, at, tag, tag_len, tag_max);
@@ -178,7 +178,7 @@ pub fn skip_deltas(
     tag_max: &[u64; 4],
 ) -> Skipped
     requires at_in_bounds { at + 32 ≤ length input.now }
-    requires tag_len_value { (tag_len.now ≡ t1248) × (tag_max.now ≡ masks t1248) }
+    requires tables { (tag_len.now ≡ t1248) × (tag_max.now ≡ masks t1248) }
     ensures { Skips t1248 input.now m64 at tag result.read result.sum }
 {
     let d = decode(input, at, tag, tag_len, tag_max);

@@ -96,7 +96,7 @@ pub fn decode_singles(
 ) -> usize
     requires windows { Windows t1248 tags.now «data».now from to at }
     requires to_in_bounds { 4 * to ≤ length values.old }
-    requires tag_len_value { (tag_len.now ≡ t1248) × (tag_max.now ≡ masks t1248) }
+    requires tables { (tag_len.now ≡ t1248) × (tag_max.now ≡ masks t1248) }
     ensures { Runs t1248 tags.now «data».now values.old from to at result values.new }
 {
     let mut read = at;
@@ -180,7 +180,7 @@ pub fn decode_deltas_singles(
 ) -> Ran
     requires windows { Windows t1248 tags.now «data».now from to at }
     requires to_in_bounds { 4 * to ≤ length values.old }
-    requires tag_len_value { (tag_len.now ≡ t1248) × (tag_max.now ≡ masks t1248) }
+    requires tables { (tag_len.now ≡ t1248) × (tag_max.now ≡ masks t1248) }
     ensures { RunsDeltas t1248 tags.now «data».now values.old m64 from to at (slice_index base 3) result.read (slice_index result.base 3) values.new }
 {
     let mut read = at;
@@ -253,7 +253,7 @@ pub fn skip_deltas_singles(
     tag_max: &[u64; 4],
 ) -> Summed
     requires windows { Windows t1248 tags.now «data».now from to at }
-    requires tag_len_value { (tag_len.now ≡ t1248) × (tag_max.now ≡ masks t1248) }
+    requires tables { (tag_len.now ≡ t1248) × (tag_max.now ≡ masks t1248) }
     ensures { RunsSum t1248 tags.now «data».now m64 from to at start result.read result.sum }
 {
     let mut read = at;

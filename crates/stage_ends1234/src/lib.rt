@@ -99,7 +99,7 @@ fn saturating_sub(a: usize, b: usize) -> usize
 fn front_end(tags: &[u8], data: &[u8]) -> End
     requires { length tags.now ≤ group_limit }
     ensures measured { Measured t1234 tags.now 0 result.groups result.read × (result.groups % 8 ≡ 0) }
-    ensures t1234_in_bounds { 0 < result.groups → result.read + slack t1234 ≤ length «data».now }
+    ensures slack_there { 0 < result.groups → result.read + slack t1234 ≤ length «data».now }
 {
     let eights = saturating_sub(tags.len(), 64) / 8;
     let read = data_len_fours(tags, 0, 2 * eights) as usize;
@@ -114,7 +114,7 @@ fn front_end(tags: &[u8], data: &[u8]) -> End
 
 // Eight tags at once while their bytes plus slack are there.
 fn eights_end(tags: &[u8], data: &[u8], lens: &[u32; 256]) -> End
-    requires tags_len_bound { length tags.now ≤ group_limit }
+    requires limit { length tags.now ≤ group_limit }
     requires lengths { Lengths t1234 lens.now }
     ensures { EndsAt t1234 tags.now «data».now (eights t1234 tags.now (length «data».now)) result.groups result.read }
 {
@@ -151,7 +151,7 @@ fn singles_end(tags: &[u8], data: &[u8], from: End, lens: &[u32; 256]) -> End
 }
 
 pub fn stage_ends(tags: &[u8], data: &[u8], lens: &[u32; 256]) -> StageEnds
-    requires tags_len_bound { length tags.now ≤ group_limit }
+    requires limit { length tags.now ≤ group_limit }
     requires lengths { Lengths t1234 lens.now }
     ensures { Ends t1234 tags.now «data».now result.eights result.eights_read result.groups result.read result.taken result.copied }
 {

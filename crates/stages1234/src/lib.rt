@@ -34,7 +34,7 @@ fn decode_tail(
 ) -> usize
     requires tail { Tail t1234 tags.now «data».now groups read }
     requires tags_in_bounds { 4 * length tags.now ≤ length values.old }
-    requires tag_len_value { (tag_len.now ≡ t1234) × (tag_max.now ≡ masks t1234) }
+    requires tables { (tag_len.now ≡ t1234) × (tag_max.now ≡ masks t1234) }
     ensures { Runs t1234 tags.now «data».now values.old groups (length tags.now) read result values.new }
 {
     let buf = scratch(data, read);
@@ -51,7 +51,7 @@ pub fn decode_stages(
 ) -> usize
     requires ends { Ends t1234 tags.now «data».now ends.eights ends.eights_read ends.groups ends.read ends.taken ends.copied × (ends.taken ≤ ends.copied) }
     requires tags_in_bounds { 4 * length tags.now ≤ length values.old }
-    requires tag_len_value { (tag_len.now ≡ t1234) × (tag_max.now ≡ masks t1234) }
+    requires tables { (tag_len.now ≡ t1234) × (tag_max.now ≡ masks t1234) }
     ensures { Runs t1234 tags.now «data».now values.old 0 (length tags.now) 0 result values.new }
 {
     let eights = ends.eights;
@@ -77,7 +77,7 @@ fn decode_deltas_tail(
 ) -> Ran
     requires tail { Tail t1234 tags.now «data».now groups ran.read }
     requires tags_in_bounds { 4 * length tags.now ≤ length values.old }
-    requires tag_len_value { (tag_len.now ≡ t1234) × (tag_max.now ≡ masks t1234) }
+    requires tables { (tag_len.now ≡ t1234) × (tag_max.now ≡ masks t1234) }
     ensures { RunsDeltas t1234 tags.now «data».now values.old m32 groups (length tags.now) ran.read (get_or ran.base 3 0) result.read (get_or result.base 3 0) values.new }
 {
     let read = ran.read;
@@ -112,7 +112,7 @@ pub fn decode_deltas_stages(
 ) -> Ran
     requires ends { Ends t1234 tags.now «data».now ends.eights ends.eights_read ends.groups ends.read ends.taken ends.copied × (ends.taken ≤ ends.copied) }
     requires tags_in_bounds { 4 * length tags.now ≤ length values.old }
-    requires tag_len_value { (tag_len.now ≡ t1234) × (tag_max.now ≡ masks t1234) }
+    requires tables { (tag_len.now ≡ t1234) × (tag_max.now ≡ masks t1234) }
     ensures { RunsDeltas t1234 tags.now «data».now values.old m32 0 (length tags.now) 0 initial result.read (get_or result.base 3 0) values.new }
 {
     let eights = ends.eights;
@@ -138,7 +138,7 @@ fn skip_deltas_tail(
     tag_max: &[u32; 4],
 ) -> Summed
     requires tail { Tail t1234 tags.now «data».now groups ran.read }
-    requires tag_len_value { (tag_len.now ≡ t1234) × (tag_max.now ≡ masks t1234) }
+    requires tables { (tag_len.now ≡ t1234) × (tag_max.now ≡ masks t1234) }
     ensures { RunsSum t1234 tags.now «data».now m32 groups (length tags.now) ran.read ran.sum result.read result.sum }
 {
     let read = ran.read;
@@ -168,7 +168,7 @@ pub fn skip_deltas_stages(
     tag_max: &[u32; 4],
 ) -> Summed
     requires ends { Ends t1234 tags.now «data».now ends.eights ends.eights_read ends.groups ends.read ends.taken ends.copied × (ends.taken ≤ ends.copied) }
-    requires tag_len_value { (tag_len.now ≡ t1234) × (tag_max.now ≡ masks t1234) }
+    requires tables { (tag_len.now ≡ t1234) × (tag_max.now ≡ masks t1234) }
     ensures { RunsSum t1234 tags.now «data».now m32 0 (length tags.now) 0 0 result.read result.sum }
 {
     let eights = ends.eights;

@@ -15,7 +15,7 @@ pub stage_ends-ends-requires : goal.stage_ends-ends-requires
 stage_ends-ends-requires c =
     let a = c.args in
     let fits = matched (walked m32 a.initial) t0124 a.tags.now a.«data».now a.values.now c.requires in
-    record { tags_len_bound = fits.1; lengths = c.tag_length_table-lens.ensures }
+    record { limit = fits.1; lengths = c.tag_length_table-lens.ensures }
 
 pub overflow_add-ends : goal.overflow_add-ends
 overflow_add-ends c =
@@ -31,7 +31,7 @@ decode_deltas_stages-ran-requires c =
     let says = c.data_verdict-verdict.ensures t0124 l refl (sym (all_read t0124 table0124 _ _ ends)) (sym ends.copied) (sym ends.taken) in
     let fits = matched (walked m32 a.initial) t0124 a.tags.now a.«data».now a.values.now c.requires in
     let there = data_fits t0124 l (accepts t0124 l data_rows [] says c.in-Accepted.is) in
-    record { ends = (ends, omega (arith, there.1, ends.taken, ends.copied)); tags_in_bounds = omega (arith, fits.0); tag_len_value = (c.tag_len-tag_len.ensures, c.tag_max-tag_max.ensures) }
+    record { ends = (ends, omega (arith, there.1, ends.taken, ends.copied)); tags_in_bounds = omega (arith, fits.0); tables = (c.tag_len-tag_len.ensures, c.tag_max-tag_max.ensures) }
 
 pub returns-in-Refused : goal.returns-in-Refused
 returns-in-Refused c =

@@ -15,7 +15,7 @@ pub stage_ends-ends-requires : goal.stage_ends-ends-requires
 stage_ends-ends-requires c =
     let a = c.args in
     let l : Lent = lent_to_read a.tags.now (length a.«data».now) in
-    record { tags_len_bound = limited t0124 l c.requires; lengths = c.tag_length_table-lens.ensures }
+    record { limit = limited t0124 l c.requires; lengths = c.tag_length_table-lens.ensures }
 
 pub overflow_add-ends : goal.overflow_add-ends
 overflow_add-ends c =
@@ -30,7 +30,7 @@ skip_deltas_stages-ran-requires c =
     let ends = c.stage_ends-ends.ensures in
     let says = c.data_verdict-verdict.ensures t0124 l refl (sym (all_read t0124 table0124 _ _ ends)) (sym ends.copied) (sym ends.taken) in
     let there = data_fits t0124 l (accepts t0124 l data_rows [] says c.in-Accepted.is) in
-    record { ends = (ends, omega (arith, there.1, ends.taken, ends.copied)); tag_len_value = (c.tag_len-tag_len.ensures, c.tag_max-tag_max.ensures) }
+    record { ends = (ends, omega (arith, there.1, ends.taken, ends.copied)); tables = (c.tag_len-tag_len.ensures, c.tag_max-tag_max.ensures) }
 
 pub returns-in-Refused : goal.returns-in-Refused
 returns-in-Refused c =

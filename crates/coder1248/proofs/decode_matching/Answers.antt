@@ -16,7 +16,7 @@ pub stage_ends-ends-requires : goal.stage_ends-ends-requires
 stage_ends-ends-requires c =
     let a = c.args in
     let fits = matched (λ (ns : List ℕ). ns) t1248 a.tags.now a.«data».now a.values.now c.requires in
-    record { tags_len_bound = fits.1; lengths = c.tag_length_table-lens.ensures }
+    record { limit = fits.1; lengths = c.tag_length_table-lens.ensures }
 
 pub overflow_add-ends : goal.overflow_add-ends
 overflow_add-ends c =
@@ -32,7 +32,7 @@ decode_stages-requires c =
     let says = c.data_verdict-verdict.ensures t1248 l refl (sym (all_read t1248 table1248 _ _ ends)) (sym ends.copied) (sym ends.taken) in
     let fits = matched (λ (ns : List ℕ). ns) t1248 a.tags.now a.«data».now a.values.now c.requires in
     let there = data_fits t1248 l (accepts t1248 l data_rows [] says c.in-Accepted.is) in
-    record { ends = (ends, omega (arith, there.1, ends.taken, ends.copied)); tags_in_bounds = omega (arith, fits.0); tag_len_value = (c.tag_len-tag_len.ensures, c.tag_max-tag_max.ensures) }
+    record { ends = (ends, omega (arith, there.1, ends.taken, ends.copied)); tags_in_bounds = omega (arith, fits.0); tables = (c.tag_len-tag_len.ensures, c.tag_max-tag_max.ensures) }
 
 pub returns-in-Refused : goal.returns-in-Refused
 returns-in-Refused c =

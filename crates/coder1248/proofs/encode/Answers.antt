@@ -15,7 +15,7 @@ encode_groups-requires c =
     let l : Lent = lent_to_encode (length a.values.now) a.tags.now (length a.«data».now) in
     let says = c.encode_verdict-verdict.ensures t1248 l refl refl refl refl refl in
     let may = allowed t1248 a.values.now a.tags.now a.«data».now (accepts t1248 l encoding_rows [] says c.in-Accepted.is) in
-    record { groups_in_bounds = (omega (arith, may.0), omega (arith, may.1)); groups_in_bounds_2 = (omega (arith, may.2), omega (arith, may.3)) }
+    record { groups_in_bounds = (omega (arith, may.0), omega (arith, may.1)); room = (omega (arith, may.2), omega (arith, may.3)) }
 
 pub returns-in-Refused : goal.returns-in-Refused
 returns-in-Refused c =

@@ -15,7 +15,7 @@ pub stage_ends-ends-requires : goal.stage_ends-ends-requires
 stage_ends-ends-requires c =
     let a = c.args in
     let l : Lent = lent_to_read a.tags.now (length a.«data».now) in
-    record { tags_len_bound = limited t1248 l c.requires; lengths = c.tag_length_table-lens.ensures }
+    record { limit = limited t1248 l c.requires; lengths = c.tag_length_table-lens.ensures }
 
 pub overflow_add-ends : goal.overflow_add-ends
 overflow_add-ends c =
@@ -30,7 +30,7 @@ skip_deltas_stages-ran-requires c =
     let ends = c.stage_ends-ends.ensures in
     let says = c.data_verdict-verdict.ensures t1248 l refl (sym (all_read t1248 table1248 _ _ ends)) (sym ends.copied) (sym ends.taken) in
     let there = data_fits t1248 l (accepts t1248 l data_rows [] says c.in-Accepted.is) in
-    record { ends = (ends, omega (arith, there.1, ends.taken, ends.copied)); tag_len_value = (c.tag_len-tag_len.ensures, c.tag_max-tag_max.ensures) }
+    record { ends = (ends, omega (arith, there.1, ends.taken, ends.copied)); tables = (c.tag_len-tag_len.ensures, c.tag_max-tag_max.ensures) }
 
 pub returns-in-Refused : goal.returns-in-Refused
 returns-in-Refused c =

@@ -16,5 +16,5 @@ pub returns : goal.returns
 returns c =
     let end = c.deltas_front_end-front in
     let front = c.encode_deltas_front-e in
-    wide_then_covered t0124 table0124 _ _ _ _ _ end.ensures c.requires.groups_in_bounds_2.0 c.requires.groups_in_bounds_2.1 front.ensures.runs
+    wide_then_covered t0124 table0124 _ _ _ _ _ end.ensures c.requires.room.0 c.requires.room.1 front.ensures.runs
     (ap (steps m32 (get_or front.result.base 3 0)) (behind_is (4 * end.result) c.args.values.now) ∙ front.ensures.left) c.encode_deltas_exactly.ensures

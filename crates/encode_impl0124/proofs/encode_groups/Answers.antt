@@ -13,5 +13,5 @@ overflow_add-result c = omega (arith, exact_most t0124 table0124 c.encode_exactl
 pub returns : goal.returns
 returns c =
     let end = c.front_end-front in
-    wide_then_covered t0124 table0124 _ _ _ _ _ end.ensures c.requires.groups_in_bounds_2.0 c.requires.groups_in_bounds_2.1
+    wide_then_covered t0124 table0124 _ _ _ _ _ end.ensures c.requires.room.0 c.requires.room.1
     c.encode_front-written.ensures (behind_is (4 * end.result) c.args.values.now) c.encode_exactly.ensures

@@ -15,5 +15,5 @@ overflow_add-result c = omega (arith, exact_most t1234 table1234 c.encode_exactl
 pub returns : goal.returns
 returns c =
     wide_then_last t1234 table1234 _ 1 _ _ _ _ c.saturating_sub-front.ensures (lit≤ tt) (lit< tt)
-    (below_fits w32 c.args.values.now c.type_inv.values) c.requires.groups_in_bounds.0 c.requires.groups_in_bounds_2.0 c.requires.groups_in_bounds_2.1
+    (below_fits w32 c.args.values.now c.type_inv.values) c.requires.groups_in_bounds.0 c.requires.room.0 c.requires.room.1
     c.encode_front-written.ensures (behind_is (4 * c.saturating_sub-front.result) c.args.values.now) c.encode_exactly.ensures

@@ -17,6 +17,6 @@ pub returns : goal.returns
 returns c =
     let front = c.encode_deltas_front-e in
     wide_then_last t1248 table1248 _ 2 _ _ _ _ c.saturating_sub-front.ensures (lit≤ tt) (lit< tt)
-    (steps-below m64 c.args.initial c.args.values.now (lit< tt)) (rw steps-length c.requires.groups_in_bounds.0) c.requires.groups_in_bounds_2.0 c.requires.groups_in_bounds_2.1
+    (steps-below m64 c.args.initial c.args.values.now (lit< tt)) (rw steps-length c.requires.groups_in_bounds.0) c.requires.room.0 c.requires.room.1
     front.ensures.runs (ap (steps m64 (get_or front.result.base 3 0)) (behind_is (4 * c.saturating_sub-front.result) c.args.values.now) ∙ front.ensures.left)
     c.encode_deltas_exactly.ensures

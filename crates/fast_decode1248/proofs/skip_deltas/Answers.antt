@@ -5,7 +5,7 @@ use Rattle.packed.specs.Format.{m64, wrapping_sum}
 use Rattle.fast_decode1248.proofs.skip_deltas.Goals as goal
 
 pub numbers-d-requires : goal.numbers-d-requires
-numbers-d-requires c = record { at_in_bounds = search rules; place_value = (c.requires.places.0 c.args.tag (search rules), c.half_masks.ensures) }
+numbers-d-requires c = record { at_in_bounds = search rules; entries = (c.requires.places.0 c.args.tag (search rules), c.half_masks.ensures) }
 
 pub returns : goal.returns
 returns c =

@@ -11,7 +11,7 @@ use Rattle.runs0124.proofs.decode_deltas_singles.Goals as goal
 pub loop-i-init : goal.loop-i-init
 loop-i-init c =
     let base : Below m32 c.args.base = below_fits w32 c.args.base (λ i. search rules) in
-    (running_deltas_start t0124 c.requires.windows c.requires.to_in_bounds (base 3), c.requires.tag_len_value.0, c.requires.tag_len_value.1)
+    (running_deltas_start t0124 c.requires.windows c.requires.to_in_bounds (base 3), c.requires.tables.0, c.requires.tables.1)
 
 pub bounds-tags-i : goal.bounds-tags-i
 bounds-tags-i c = omega (arith, c.loop-i.invariant.0.way.windows.tags_there)
@@ -19,7 +19,7 @@ bounds-tags-i c = omega (arith, c.loop-i.invariant.0.way.windows.tags_there)
 pub decode_deltas-d-requires : goal.decode_deltas-d-requires
 decode_deltas-d-requires c =
     let s = c.loop-i.invariant in
-    record { at_in_bounds = window t0124 s.0.way c.loop-i-test.true; tag_len_value = (s.1, s.2) }
+    record { at_in_bounds = window t0124 s.0.way c.loop-i-test.true; tables = (s.1, s.2) }
 
 pub overflow_mul-i : goal.overflow_mul-i
 overflow_mul-i c = omega (arith, c.loop-i.invariant.0.room)

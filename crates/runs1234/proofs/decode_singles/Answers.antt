@@ -8,7 +8,7 @@ use Rattle.tag_utils.specs.Tables.{masks}
 use Rattle.runs1234.proofs.decode_singles.Goals as goal
 
 pub loop-i-init : goal.loop-i-init
-loop-i-init c = (running_start t1234 c.requires.windows c.requires.to_in_bounds, c.requires.tag_len_value.0, c.requires.tag_len_value.1)
+loop-i-init c = (running_start t1234 c.requires.windows c.requires.to_in_bounds, c.requires.tables.0, c.requires.tables.1)
 
 pub bounds-tags-i : goal.bounds-tags-i
 bounds-tags-i c = omega (arith, c.loop-i.invariant.0.way.windows.tags_there)
@@ -16,7 +16,7 @@ bounds-tags-i c = omega (arith, c.loop-i.invariant.0.way.windows.tags_there)
 pub decode-d-requires : goal.decode-d-requires
 decode-d-requires c =
     let s = c.loop-i.invariant in
-    record { at_in_bounds = window t1234 s.0.way c.loop-i-test.true; tag_len_value = (s.1, s.2) }
+    record { at_in_bounds = window t1234 s.0.way c.loop-i-test.true; tables = (s.1, s.2) }
 
 pub overflow_mul-i : goal.overflow_mul-i
 overflow_mul-i c = omega (arith, c.loop-i.invariant.0.room)

@@ -11,7 +11,7 @@ use Rattle.stage_ends1248.proofs.eights_end.Goals as goal
 
 pub loop-i-init : goal.loop-i-init
 loop-i-init c =
-    (at_eights_front t1248 table1248 _ _ _ _ c.front_end-front.ensures.measured.0 c.front_end-front.ensures.measured.1 c.front_end-front.ensures.t1248_in_bounds, c.requires.lengths)
+    (at_eights_front t1248 table1248 _ _ _ _ c.front_end-front.ensures.measured.0 c.front_end-front.ensures.measured.1 c.front_end-front.ensures.slack_there, c.requires.lengths)
 
 pub overflow_sub-tags : goal.overflow_sub-tags
 overflow_sub-tags c = omega (arith, c.loop-i.invariant.0.measured.inside)

@@ -9,11 +9,11 @@ use Rattle.packed.proofs.Coders.{table1248}
 use Rattle.stage_ends1248.proofs.front_end.Goals as goal
 
 pub returns-then-data-read : goal.returns-then-data-read
-returns-then-data-read c = record { measured = (measured_here t1248 table1248 _ 0 zero-le, refl); t1248_in_bounds = λ none. absurd (omega arith) }
+returns-then-data-read c = record { measured = (measured_here t1248 table1248 _ 0 zero-le, refl); slack_there = λ none. absurd (omega arith) }
 
 pub returns : goal.returns
 returns c =
     let fours = c.data_len_fours-read in
     let n : ℕ = c.saturating_sub-eights.result / 8 in
     let e : 0 + 4 * (2 * n) ≡ 8 * n = omega arith in
-    record { measured = (subst (λ (k : ℕ). Measured t1248 c.args.tags.now 0 k fours.result) e fours.ensures, omega arith); t1248_in_bounds = λ some. c.if-data-read.false }
+    record { measured = (subst (λ (k : ℕ). Measured t1248 c.args.tags.now 0 k fours.result) e fours.ensures, omega arith); slack_there = λ some. c.if-data-read.false }

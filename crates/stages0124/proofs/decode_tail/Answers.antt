@@ -8,7 +8,7 @@ use Rattle.packed.proofs.Coders.{table0124}
 use Rattle.stages0124.proofs.decode_tail.Goals as goal
 
 pub decode_singles-requires : goal.decode_singles-requires
-decode_singles-requires c = record { windows = tail_windows t0124 table0124 _ _ _ _ _ c.requires.tail (search rules) (lit≤ tt); to_in_bounds = c.requires.tags_in_bounds; tag_len_value = c.requires.tag_len_value }
+decode_singles-requires c = record { windows = tail_windows t0124 table0124 _ _ _ _ _ c.requires.tail (search rules) (lit≤ tt); to_in_bounds = c.requires.tags_in_bounds; tables = c.requires.tables }
 
 pub returns : goal.returns
 returns c =

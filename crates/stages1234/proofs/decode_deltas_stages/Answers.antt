@@ -11,10 +11,10 @@ pub decode_deltas_eights-first-requires : goal.decode_deltas_eights-first-requir
 decode_deltas_eights-first-requires c = record { windows = (first-stage t1234 table1234 _ _ c.requires.ends.0, eights-whole t1234 table1234 _ _ c.requires.ends.0); to_in_bounds = omega (arith, groups-in t1234 table1234 _ _ c.requires.ends.0, eights-before t1234 table1234 _ _ c.requires.ends.0, c.requires.tags_in_bounds) }
 
 pub decode_deltas_singles-second-requires : goal.decode_deltas_singles-second-requires
-decode_deltas_singles-second-requires c = record { windows = second-start t1234 table1234 _ _ c.requires.ends.0 _ c.decode_deltas_eights-first.ensures.read; to_in_bounds = omega (arith, groups-in t1234 table1234 _ _ c.requires.ends.0, eights-before t1234 table1234 _ _ c.requires.ends.0, c.requires.tags_in_bounds); tag_len_value = c.requires.tag_len_value }
+decode_deltas_singles-second-requires c = record { windows = second-start t1234 table1234 _ _ c.requires.ends.0 _ c.decode_deltas_eights-first.ensures.read; to_in_bounds = omega (arith, groups-in t1234 table1234 _ _ c.requires.ends.0, eights-before t1234 table1234 _ _ c.requires.ends.0, c.requires.tags_in_bounds); tables = c.requires.tables }
 
 pub decode_deltas_tail-requires : goal.decode_deltas_tail-requires
-decode_deltas_tail-requires c = record { tail = tail-start t1234 table1234 _ _ c.requires.ends.0 _ _ c.decode_deltas_eights-first.ensures.read c.decode_deltas_singles-second.ensures.read c.if-groups-tags.true c.requires.ends.1; tags_in_bounds = omega (arith, c.requires.tags_in_bounds); tag_len_value = c.requires.tag_len_value }
+decode_deltas_tail-requires c = record { tail = tail-start t1234 table1234 _ _ c.requires.ends.0 _ _ c.decode_deltas_eights-first.ensures.read c.decode_deltas_singles-second.ensures.read c.if-groups-tags.true c.requires.ends.1; tags_in_bounds = omega (arith, c.requires.tags_in_bounds); tables = c.requires.tables }
 
 pub returns-then-groups-tags : goal.returns-then-groups-tags
 returns-then-groups-tags c =

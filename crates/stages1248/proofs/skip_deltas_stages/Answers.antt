@@ -11,10 +11,10 @@ pub skip_deltas_eights-first-requires : goal.skip_deltas_eights-first-requires
 skip_deltas_eights-first-requires c = (first-stage t1248 table1248 _ _ c.requires.ends.0, eights-whole t1248 table1248 _ _ c.requires.ends.0)
 
 pub skip_deltas_singles-second-requires : goal.skip_deltas_singles-second-requires
-skip_deltas_singles-second-requires c = record { windows = second-start t1248 table1248 _ _ c.requires.ends.0 _ c.skip_deltas_eights-first.ensures.read; tag_len_value = c.requires.tag_len_value }
+skip_deltas_singles-second-requires c = record { windows = second-start t1248 table1248 _ _ c.requires.ends.0 _ c.skip_deltas_eights-first.ensures.read; tables = c.requires.tables }
 
 pub skip_deltas_tail-requires : goal.skip_deltas_tail-requires
-skip_deltas_tail-requires c = record { tail = tail-start t1248 table1248 _ _ c.requires.ends.0 _ _ c.skip_deltas_eights-first.ensures.read c.skip_deltas_singles-second.ensures.read c.if-groups-tags.true c.requires.ends.1; tag_len_value = c.requires.tag_len_value }
+skip_deltas_tail-requires c = record { tail = tail-start t1248 table1248 _ _ c.requires.ends.0 _ _ c.skip_deltas_eights-first.ensures.read c.skip_deltas_singles-second.ensures.read c.if-groups-tags.true c.requires.ends.1; tables = c.requires.tables }
 
 pub returns-then-groups-tags : goal.returns-then-groups-tags
 returns-then-groups-tags c =

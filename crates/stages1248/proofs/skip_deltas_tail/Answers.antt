@@ -8,7 +8,7 @@ use Rattle.packed.proofs.Coders.{table1248}
 use Rattle.stages1248.proofs.skip_deltas_tail.Goals as goal
 
 pub skip_deltas_singles-rest-requires : goal.skip_deltas_singles-rest-requires
-skip_deltas_singles-rest-requires c = record { windows = tail_windows t1248 table1248 _ _ _ _ _ c.requires.tail (search rules) (lit≤ tt); tag_len_value = c.requires.tag_len_value }
+skip_deltas_singles-rest-requires c = record { windows = tail_windows t1248 table1248 _ _ _ _ _ c.requires.tail (search rules) (lit≤ tt); tables = c.requires.tables }
 
 pub returns : goal.returns
 returns c =

@@ -6,7 +6,7 @@ use Rattle.tag_utils.specs.Tables.{masks}
 use Rattle.raw_group0124.proofs.raw_group.decode.Goals as goal
 
 pub loop-i-init : goal.loop-i-init
-loop-i-init c = (decoding_start t0124 _ _ _ 4, c.requires.tag_len_value.0, c.requires.tag_len_value.1)
+loop-i-init c = (decoding_start t0124 _ _ _ 4, c.requires.tables.0, c.requires.tables.1)
 
 pub number-requires : goal.number-requires
 number-requires c =
