@@ -2,14 +2,14 @@
 -- Assumes nothing.
 use mathlib.Core.Path.{◌≡◌, refl, ap, ap₂, sym, ◌∙◌, subst}
 use mathlib.Core.List.{List, [], ◌∷◌, ◌++◌, append-nil}
-use Prim.Native.Nat.{ℕ, zero, suc, pred, ◌+◌, ◌*◌, ◌/◌, ◌%◌, ◌≤◌, ◌<◌, max}
+use Prim.Native.Nat.{ℕ, suc, pred, ◌+◌, ◌*◌, ◌/◌, ◌%◌, ◌≤◌}
 use native.Mathlib.Nat.{zero-add}
 use native.Mathlib.Omega.{arith}
 use lib.ListN.{length, drop, drop_of_length-le}
 use lib.Seq.{sets, sets-eq, slice, take-length}
 use Rattle.packed.specs.Format.{total, data_len, stored, tags_of, bytes_of, steps, walked, wrapping_sum}
 use Rattle.packed.specs.Refusals.{Lent, Row, not_fours, too_many_groups, few_tags, little_room, other_tags, missing_data, tail_overrun, lent_to_encode, lent_to_decode, lent_to_read, group_limit, first_of, encoding_rows, decoding_rows, skipping_rows, tightness_rows, length_rows}
-use Rattle.packed.specs.Calls.{Answer, accepted, refused, unless_refused, encoded, encoding, encoding_deltas, decoded, decoding_by, skipping, measuring, testing, tightness_of, untested}
+use Rattle.packed.specs.Calls.{accepted, refused, unless_refused, encoded, encoding, encoding_deltas, decoded, decoding_by, skipping, measuring, testing, tightness_of, untested}
 use Rattle.packed.specs.Column.{Runs, RunsDeltas, RunsSum, RunsEncode, Measured}
 use Rattle.packed.specs.Stages.{widest_group, tail_takes, tail_copied}
 use Rattle.packed.proofs.Columns.{stored-length}

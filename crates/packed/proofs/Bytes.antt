@@ -1,12 +1,11 @@
 -- Laws of numbers as bytes, low byte first. Assumes nothing.
-use mathlib.Core.Path.{◌≡◌, refl, ap, ap₂, sym, ◌∙◌, subst}
-use mathlib.Core.List.{List, [], ◌∷◌, ◌++◌}
+use mathlib.Core.Path.{◌≡◌, refl, ap, ap₂, sym, ◌∙◌}
+use mathlib.Core.List.{List, [], ◌∷◌}
 use Prim.Native.Nat.{ℕ, zero, suc, ◌+◌, ◌-◌, ◌*◌, ◌/◌, ◌%◌, ◌^◌, ◌≤◌, ◌<◌}
-use native.Mathlib.Nat.{zero-add, add_assoc, add_comm, mul_comm, mul-suc, pow-suc, pow-zero, mod-lt, mod-eq_of_lt, mod-one, lt_of_lt_of_le, le_trans, zero-lt-suc, not-suc-le-zero, le_of_suc-le-suc, le_refl}
+use native.Mathlib.Nat.{zero-add, add_assoc, add_comm, mul_comm, mul-suc, pow-suc, mod-lt, mod-eq_of_lt, mod-one, not-suc-le-zero, le_of_suc-le-suc, le_refl}
 use native.Mathlib.Nat.{one-mul, mul-lt-mul_of_pos_right, add-mul-div_left, add-mul-mod_self_left, div-eq_of_lt}
 use native.Mathlib.Numerals.{add-one}
-use native.Mathlib.Omega.{arith}
-use lib.Arith.{mod-mul, digits_lt}
+use lib.Arith.{mod-mul}
 use lib.Bits.{bit_and, and_mask}
 use lib.Dec.{lit<}
 use lib.ListN.{length, take, drop, get_or}

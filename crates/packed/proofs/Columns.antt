@@ -1,15 +1,15 @@
 -- Laws of runs over a column: nothing run yet, one group, and a run behind a run. Assumes nothing.
 use mathlib.Core.Path.{◌≡◌, refl, ap, ap₂, sym, ◌∙◌, subst}
-use mathlib.Core.List.{List, [], ◌∷◌, ◌++◌, append_assoc, append-nil}
-use Prim.Native.Nat.{ℕ, zero, suc, ◌+◌, ◌-◌, ◌*◌, ◌/◌, ◌%◌, ◌^◌, ◌≤◌, ◌<◌}
-use native.Mathlib.Nat.{add-zero, zero-add, add_assoc, mod-lt, mod-eq_of_lt, mod-add-mod, add-mod-mod, lt-suc_self}
+use mathlib.Core.List.{List, [], ◌∷◌, ◌++◌, append-nil}
+use Prim.Native.Nat.{ℕ, suc, ◌+◌, ◌-◌, ◌*◌, ◌%◌, ◌≤◌, ◌<◌}
+use native.Mathlib.Nat.{add-zero, zero-add, add_assoc, mod-eq_of_lt, mod-add-mod, add-mod-mod, lt-suc_self}
 use native.Mathlib.Numerals.{add-one}
 use native.Mathlib.Omega.{arith}
-use lib.ListN.{length, take, drop, get_or, length-take, length-drop, length-append, replicate, set, drop_of_length-le}
+use lib.ListN.{length, take, drop, get_or, length-drop, length-append, replicate, set, drop_of_length-le}
 use lib.Seq.{drop-cons, sets, sets-eq, take-append-le, slice, slice_empty, slice-cons, length-slice, length-take-le, take-add, drop-drop, drop_at, drop-append-le}
-use Rattle.packed.specs.Format.{field, widths, column_widths, total, data_len, numbers, stored, walked, wrapping_sum}
+use Rattle.packed.specs.Format.{widths, column_widths, total, data_len, numbers, stored, walked, wrapping_sum}
 use Rattle.packed.specs.Group.{Decodes, DecodesDeltas, Skips}
-use Rattle.packed.specs.Column.{Windows, Runs, RunsDeltas, RunsSum, Tail}
+use Rattle.packed.specs.Column.{Runs, RunsDeltas, RunsSum, Tail}
 use Rattle.packed.specs.Stages.{widest_group}
 use Rattle.packed.proofs.Deltas.{walked-append, walked-length, walked_last, last_of}
 use Rattle.packed.proofs.Loops.{sets-append}

@@ -1,10 +1,10 @@
 -- Laws of steps and their sums, modulo m. Assumes nothing.
-use mathlib.Core.Path.{◌≡◌, refl, ap, ap₂, sym, ◌∙◌, subst}
+use mathlib.Core.Path.{◌≡◌, refl, ap, ap₂, sym, ◌∙◌}
 use mathlib.Core.List.{List, [], ◌∷◌, ◌++◌}
-use Prim.Native.Nat.{ℕ, zero, suc, ◌+◌, ◌-◌, ◌*◌, ◌/◌, ◌%◌, ◌^◌, ◌≤◌, ◌<◌}
-use native.Mathlib.Nat.{add-zero, add_assoc, add_comm, le_of_lt, lt_of_le_of_lt, mod-lt, mod-eq_of_lt, mod-add-mod, add-mod-mod, add-mod_right}
+use Prim.Native.Nat.{ℕ, suc, ◌+◌, ◌-◌, ◌%◌, ◌<◌}
+use native.Mathlib.Nat.{add-zero, add_assoc, add_comm, mod-lt, mod-eq_of_lt, mod-add-mod, add-mod-mod, add-mod_right}
 use native.Mathlib.Omega.{arith}
-use lib.ListN.{length, get_or}
+use lib.ListN.{length}
 use Rattle.packed.specs.Format.{total, steps, walked, wrapping_sum}
 use Rattle.packed.proofs.Bytes.{Below}
 

@@ -2,14 +2,14 @@
 -- Assumes nothing.
 use mathlib.Core.Path.{◌≡◌, refl, ap, ap₂, sym, ◌∙◌, subst}
 use mathlib.Core.Bool.{Bool, true, false}
-use mathlib.Core.List.{List, [], ◌∷◌, ◌++◌}
+use mathlib.Core.List.{List, [], ◌∷◌}
 use Prim.Native.Nat.{ℕ, zero, suc, ◌+◌, ◌-◌, ◌*◌, ◌/◌, ◌%◌, ◌^◌, ◌≤◌, ◌<◌, zero-le, suc-le-suc}
 use native.Mathlib.Nat.{add-zero, zero-add, add_assoc, add-suc, suc-add, sub-zero, mul-suc, zero-lt-suc, le_refl, mod-lt, not-suc-le-zero, le_of_suc-le-suc}
 use native.Mathlib.Numerals.{add-one}
 use native.Mathlib.Omega.{arith}
 use lib.Dec.{T, leb, leb→le, lit<}
 use lib.ListN.{length, take, drop, get_or, length-drop, drop_of_length-le}
-use lib.Seq.{drop-drop, drop-cons, slice, slice_empty, slice-cons, length-slice, take-add, length-take-le, take-length}
+use lib.Seq.{drop-drop, drop-cons, slice, slice_empty, slice-cons, length-slice, take-add, take-length}
 use borrow.Author.Tests.{leb-true, leb-false, le-leb, lt-leb}
 use Rattle.packed.specs.Format.{pick, field, widths, total, column_widths, data_len}
 use Rattle.packed.specs.Stages.{widest_group, slack, eights_from, eights, singles, staged, where_any, tail_takes, tail_copied}

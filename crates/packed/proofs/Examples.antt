@@ -2,7 +2,7 @@
 -- Assumes nothing.
 use mathlib.Core.Path.{◌≡◌, refl}
 use mathlib.Core.List.{List, [], ◌∷◌, ◌++◌}
-use Prim.Native.Nat.{ℕ, ◌-◌, ◌*◌}
+use Prim.Native.Nat.{ℕ, ◌-◌}
 use lib.ListN.{length, replicate}
 use Rattle.packed.specs.Format.{field, t1234, t0124, t1248, m32, widths, data_len, stored, short_width, wrapping_sum}
 use Rattle.packed.specs.Stages.{widest_group, eights, staged, tail_takes, tail_copied}

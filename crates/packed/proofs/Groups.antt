@@ -1,14 +1,14 @@
 -- What is certain of one group, over the width table t (of four widths, the widest w) and the modulus m. Assumes nothing.
 use mathlib.Core.Path.{◌≡◌, ap, sym, ◌∙◌, subst}
-use mathlib.Core.List.{List, [], ◌∷◌, ◌++◌, map}
+use mathlib.Core.List.{List, ◌++◌, map}
 use Prim.Native.Nat.{ℕ, ◌+◌, ◌-◌, ◌*◌, ◌%◌, ◌≤◌, ◌<◌}
 use native.Mathlib.Nat.{le_of_eq, le_trans}
 use lib.Dec.{T}
-use lib.ListN.{length, take, drop}
+use lib.ListN.{length, take}
 use Rattle.packed.specs.Format.{widths, total, numbers, short_width, tag_of, bytes_of, steps, walked, wrapping_sum}
 use Rattle.packed.proofs.Bytes.{Below}
 use Rattle.packed.proofs.Deltas.{last_of, walked-steps, steps_sum}
-use Rattle.packed.proofs.Fours.{four_of, four_is}
+use Rattle.packed.proofs.Fours.{four_is}
 use Rattle.packed.proofs.Loops.{all_le, at_most}
 use Rattle.packed.proofs.Numbers.{numbers_same}
 use Rattle.packed.proofs.Widths.{top, widths_of_tag, widths_most, bytes_length, bytes_numbers}

@@ -1,7 +1,7 @@
 -- The invariants of the group functions' loops, over the width table t: how each starts, what a turn does, and what it has come to at the end.
 -- An invariant says what is left to do. Assumes nothing.
 use mathlib.Core.Path.{◌≡◌, refl, ap, ap₂, sym, ◌∙◌, subst}
-use mathlib.Core.Bool.{Bool, true, false}
+use mathlib.Core.Bool.{Bool, true}
 use mathlib.Core.List.{List, [], ◌∷◌, ◌++◌, map, append_assoc, append-nil}
 use Prim.Native.Nat.{ℕ, zero, suc, ◌+◌, ◌-◌, ◌*◌, ◌/◌, ◌%◌, ◌^◌, ◌≤◌, ◌<◌, zero-le}
 use native.Mathlib.Nat.{add-zero, zero-add, add_assoc, add-suc, suc-add, mul-suc, sub-zero, div-one, zero-lt-suc, mod-lt, mod-eq_of_lt, mod-add-mod}
@@ -9,8 +9,8 @@ use native.Mathlib.Numerals.{add-one}
 use native.Mathlib.Omega.{arith}
 use lib.Dec.{T, leb, leb→le}
 use lib.ListN.{length, take, drop, get_or, set, length-append, length-set, drop_of_length-le, get_or-map}
-use lib.Seq.{sets, length-sets, drop-cons, drop-drop, take-suc-set, append_snoc, take_all}
-use Rattle.packed.specs.Format.{field, widths, total, le_value, numbers, le_bytes, shortest, short_width, tag_of, bytes_of, wrapping_sum}
+use lib.Seq.{sets, length-sets, drop-cons, drop-drop, take-suc-set, take_all}
+use Rattle.packed.specs.Format.{widths, total, le_value, numbers, le_bytes, shortest, short_width, tag_of, bytes_of, wrapping_sum}
 use Rattle.packed.specs.Group.{Shortest, Decodes, Encodes}
 use Rattle.packed.proofs.Bytes.{Below, le_bytes-length}
 use Rattle.packed.proofs.Fours.{four_of, four_is}

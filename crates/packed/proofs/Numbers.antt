@@ -1,11 +1,10 @@
 -- Laws of stored numbers: lists of widths joined, lengths, and which bytes are read. Assumes nothing.
-use mathlib.Core.Path.{◌≡◌, refl, ap, ap₂, sym, ◌∙◌}
+use mathlib.Core.Path.{◌≡◌, refl, ap, sym, ◌∙◌}
 use mathlib.Core.List.{List, [], ◌∷◌, ◌++◌, append_assoc}
-use Prim.Native.Nat.{ℕ, zero, suc, ◌+◌, ◌-◌, ◌*◌, ◌≤◌, ◌<◌}
+use Prim.Native.Nat.{ℕ, zero, suc, ◌+◌, ◌≤◌}
 use native.Mathlib.Nat.{zero-add, add_assoc, le-add_right, le_trans, le_of_eq}
-use native.Mathlib.Omega.{arith}
-use lib.ListN.{length, take, drop, length-append}
-use lib.Seq.{drop-drop, take-take, take-add, take-append-le, take-nil}
+use lib.ListN.{length, take, drop}
+use lib.Seq.{drop-drop, take-take, take-append-le, take-nil}
 use Rattle.packed.specs.Format.{total, numbers, column_widths, widths, data_len, stored}
 
 pub total-append : (us ws : List ℕ) → total (us ++ ws) ≡ total us + total ws

@@ -1,18 +1,17 @@
 -- The invariants of the runs' loops, over the width table t: how each starts, what one group more or eight do, and what it has come to at
 -- the end. Assumes nothing.
-use mathlib.Core.Path.{◌≡◌, refl, ap, ap₂, sym, ◌∙◌, subst}
-use mathlib.Core.List.{List, [], ◌∷◌}
-use Prim.Native.Nat.{ℕ, zero, suc, ◌+◌, ◌-◌, ◌*◌, ◌%◌, ◌≤◌, ◌<◌}
+use mathlib.Core.Path.{◌≡◌, refl, ap, sym, ◌∙◌, subst}
+use mathlib.Core.List.{List}
+use Prim.Native.Nat.{ℕ, ◌+◌, ◌*◌, ◌%◌, ◌≤◌, ◌<◌}
 use native.Mathlib.Nat.{add-zero, add_assoc, le_refl, mod-lt}
 use native.Mathlib.Omega.{arith}
 use lib.ListN.{length, get_or, drop}
 use lib.Seq.{sets, slice, length-sets}
-use Rattle.packed.specs.Format.{widths, total, data_len, stored, walked}
+use Rattle.packed.specs.Format.{total, data_len, stored, walked}
 use Rattle.packed.specs.Group.{Decodes, DecodesDeltas, Skips}
 use Rattle.packed.specs.Stages.{widest_group}
 use Rattle.packed.specs.Column.{Windows, Runs, RunsDeltas, RunsSum}
-use Rattle.packed.proofs.Columns.{slice_join, len_join, one_read, none_read, runs_none, runs_one, runs_join, deltas_none, deltas_one, deltas_join, sum_none, sum_one, sum_join_runs}
-use Rattle.packed.proofs.Deltas.{last_of}
+use Rattle.packed.proofs.Columns.{slice_join, len_join, none_read, runs_none, runs_one, runs_join, deltas_none, deltas_one, deltas_join, sum_none, sum_one, sum_join_runs}
 use Rattle.packed.proofs.Fours.{last_of_four}
 use Rattle.packed.proofs.Numbers.{data_len-append}
 

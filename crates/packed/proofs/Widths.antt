@@ -3,16 +3,15 @@
 use mathlib.Core.Path.{◌≡◌, refl, ap, ap₂, sym, ◌∙◌, subst}
 use mathlib.Core.Bool.{Bool, true, false}
 use mathlib.Core.List.{List, [], ◌∷◌, ◌++◌, map, append_assoc}
-use Prim.Native.Nat.{ℕ, zero, suc, ◌+◌, ◌-◌, ◌*◌, ◌/◌, ◌%◌, ◌^◌, ◌≤◌, ◌<◌, zero-le, suc-le-suc}
-use native.Mathlib.Nat.{add-zero, zero-add, add_comm, mul_comm, pow-suc, not-suc-le-zero, le_of_suc-le-suc, not-le_of_lt, le_trans, mod-eq_of_lt, div-eq_of_lt, div-one, div-div-eq-div-mul, add-mul-div_left, add-mul-mod_self_left}
+use Prim.Native.Nat.{ℕ, zero, suc, ◌+◌, ◌*◌, ◌/◌, ◌%◌, ◌^◌, ◌≤◌, ◌<◌, zero-le, suc-le-suc}
+use native.Mathlib.Nat.{mul_comm, pow-suc, not-suc-le-zero, le_of_suc-le-suc, not-le_of_lt, mod-eq_of_lt, div-one, div-div-eq-div-mul, add-mul-mod_self_left}
 use native.Mathlib.Omega.{arith}
-use lib.Dec.{T, ltb, lit<}
-use lib.ListN.{length, take, drop, get_or, length-append}
+use lib.Dec.{ltb, lit<}
+use lib.ListN.{length, drop, get_or, length-append}
 use lib.Seq.{take_at, drop_at}
 use borrow.Author.Tests.{ltb-true, ltb-false}
-use Rattle.packed.specs.Format.{pick, field, widths, column_widths, total, data_len, le_value, numbers, stored, le_bytes, shortest, short_width, tag_of, tags_of, bytes_of}
+use Rattle.packed.specs.Format.{pick, field, widths, total, numbers, le_bytes, shortest, short_width, tag_of, bytes_of}
 use Rattle.packed.proofs.Bytes.{Below, le_bytes-length, le_value-le_bytes_fits}
-use Rattle.packed.proofs.Numbers.{total-append, numbers-append}
 
 -- ---- the shortest field
 

@@ -1,5 +1,5 @@
 -- What each public call answers and what it leaves in every buffer that it was lent, on any input, over the width table t and the modulus m.
-use Rattle.std.specs.Prelude.{Bool, true, false, List, [], ◌∷◌, ◌++◌, ℕ, zero, suc, ◌+◌, ◌*◌, ◌/◌, ◌%◌, eqb, length, take, drop}
+use Rattle.std.specs.Prelude.{List, [], ◌∷◌, ◌++◌, ℕ, zero, suc, ◌*◌, ◌/◌, ◌%◌, eqb, length, take, drop}
 use Rattle.packed.specs.Format.{pick, column_widths, data_len, le_value, stored, short_width, tags_of, bytes_of, steps, walked, wrapping_sum}
 use Rattle.packed.specs.Refusals.{lent_to_encode, lent_to_decode, lent_to_read, first_of, encoding_rows, decoding_rows, skipping_rows, tightness_rows, length_rows}
 

@@ -1,5 +1,5 @@
 -- Document 01's refusal table. Its rows stand in order, each with its test; of a call's rows the first that applies gives the number.
-use Rattle.std.specs.Prelude.{Bool, true, false, not, List, [], ◌∷◌, ℕ, ◌*◌, ◌/◌, ◌%◌, max, ltb, eqb, length}
+use Rattle.std.specs.Prelude.{Bool, not, List, [], ◌∷◌, ℕ, ◌*◌, ◌/◌, ◌%◌, max, ltb, eqb, length}
 use Rattle.packed.specs.Format.{pick, data_len}
 use Rattle.packed.specs.Stages.{widest_group, tail_takes, tail_copied}
 

@@ -1,6 +1,6 @@
 -- Where the decoder's three stages end, from the tags and the count of data bytes alone: what row 7 of the refusal table speaks of.
 -- Request E4 takes row 7 away, and these definitions with it.
-use Rattle.std.specs.Prelude.{Bool, true, false, List, [], ◌∷◌, ℕ, zero, suc, ◌+◌, ◌-◌, ◌*◌, ◌/◌, leb, length, get_or, take, drop}
+use Rattle.std.specs.Prelude.{List, [], ◌∷◌, ℕ, zero, suc, ◌+◌, ◌-◌, ◌*◌, ◌/◌, leb, length, get_or, take, drop}
 use Rattle.packed.specs.Format.{pick, total, widths, data_len}
 
 -- "16 or 32 bytes": four numbers of the widest width.

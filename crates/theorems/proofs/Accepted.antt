@@ -1,16 +1,14 @@
 -- When a call is accepted, in plain words, and what it then gives. Assumes nothing.
-use mathlib.Core.Path.{◌≡◌, refl, ap, ap₂, sym, ◌∙◌, subst}
-use mathlib.Core.Bool.{Bool, true, false}
-use mathlib.Core.Logic.{◌↔◌}
+use mathlib.Core.Path.{◌≡◌, refl, sym, ◌∙◌, subst}
 use mathlib.Core.List.{List, [], ◌∷◌, ◌++◌}
-use Prim.Native.Nat.{ℕ, zero, suc, ◌+◌, ◌*◌, ◌/◌, ◌%◌, ◌≤◌, ◌<◌, max, zero-le}
+use Prim.Native.Nat.{ℕ, ◌*◌, ◌/◌, ◌≤◌}
 use native.Mathlib.Omega.{arith}
 use lib.ListN.{length, drop}
-use Rattle.packed.specs.Format.{data_len, stored, walked, wrapping_sum, tags_of, bytes_of}
-use Rattle.packed.specs.Refusals.{Lent, Row, not_fours, too_many_groups, other_tags, missing_data, tail_overrun, group_limit, first_of, lent_to_encode, lent_to_decode, lent_to_read, encoding_rows, decoding_rows, skipping_rows}
-use Rattle.packed.specs.Calls.{Answer, refused, accepted, unless_refused, encoded, encoding, decoded, decoding_by, skipping}
-use Rattle.packed.proofs.Rows.{miss, passed, first_passed, not_fours_no, too_many_no, other_tags_no, missing_data_no, few_groups, enough_data}
-use Rattle.answers.specs.Meaning.{count_rows, data_rows, limit_row}
+use Rattle.packed.specs.Format.{data_len, stored, wrapping_sum, tags_of, bytes_of}
+use Rattle.packed.specs.Refusals.{Lent, not_fours, too_many_groups, other_tags, missing_data, tail_overrun, group_limit, first_of, lent_to_encode, lent_to_decode, lent_to_read, encoding_rows, decoding_rows, skipping_rows}
+use Rattle.packed.specs.Calls.{accepted, encoded, encoding, decoded, decoding_by, skipping}
+use Rattle.packed.proofs.Rows.{miss, passed, first_passed, not_fours_no, too_many_no, other_tags_no, missing_data_no, few_groups}
+use Rattle.answers.specs.Meaning.{count_rows, data_rows}
 use Rattle.answers.proofs.Calls.{matched, allowed, data_fits}
 use Rattle.theorems.proofs.Tail.{never_overrun}
 use Rattle.theorems.proofs.Refusals.{decoding-number, encoding-number, skipping-number}

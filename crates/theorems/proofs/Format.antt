@@ -1,16 +1,13 @@
 -- Demand 2: decoding gives back what was encoded, shortest widths, steps modulo m, and what is tight. Assumes nothing.
 use mathlib.Core.Path.{◌≡◌, refl, ap, ap₂, sym, ◌∙◌, subst}
-use mathlib.Core.Bool.{Bool, true, false}
-use mathlib.Core.Logic.{◌↔◌}
-use mathlib.Core.List.{List, [], ◌∷◌, ◌++◌, map, append_assoc, append-nil}
-use Prim.Native.Nat.{ℕ, zero, suc, ◌+◌, ◌-◌, ◌*◌, ◌/◌, ◌%◌, ◌^◌, ◌≤◌, ◌<◌, zero-le}
-use native.Mathlib.Nat.{mod-lt, mul-suc, add_comm}
+use mathlib.Core.List.{List, [], ◌∷◌, ◌++◌, map}
+use Prim.Native.Nat.{ℕ, zero, suc, ◌+◌, ◌-◌, ◌*◌, ◌/◌, ◌≤◌, ◌<◌}
+use native.Mathlib.Nat.{mod-lt}
 use native.Mathlib.Omega.{arith}
-use lib.ListN.{length, take, drop, get_or, length-append, length-take, length-drop, take-append-drop}
-use lib.Seq.{take_at, take_all, take-append-le, length-take-le, get_or-take, get_or-drop, take-add}
-use Rattle.packed.specs.Format.{widths, column_widths, total, data_len, numbers, stored, le_value, le_bytes, shortest, short_width, tag_of, tags_of, bytes_of, steps, walked, wrapping_sum}
+use lib.ListN.{length, take, drop, length-append, length-drop, take-append-drop}
+use lib.Seq.{take_at, length-take-le}
+use Rattle.packed.specs.Format.{column_widths, total, data_len, numbers, stored, short_width, tags_of, bytes_of, steps, walked}
 use Rattle.packed.specs.Stages.{widest_group}
-use Rattle.packed.specs.Refusals.{group_limit}
 use Rattle.packed.specs.Calls.{Encoded, accepted, encoded, encoding, encoding_deltas, decoded, decoding_by, decoding, decoding_deltas}
 use Rattle.packed.proofs.Bytes.{Below, below-drop}
 use Rattle.packed.proofs.Deltas.{walked-steps, steps-length}

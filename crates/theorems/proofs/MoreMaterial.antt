@@ -1,17 +1,17 @@
 -- Demand 3: more material never changes what was read. r is the count of bytes of an accepted column, `data_len t tags`, and its values are
 -- demand 2's. `make` is what decoding makes of the stored numbers: themselves, or the values that they add up to. Assumes nothing.
-use mathlib.Core.Path.{◌≡◌, refl, ap, ap₂, sym, ◌∙◌, subst}
+use mathlib.Core.Path.{◌≡◌, refl, ap, ap₂, sym, ◌∙◌}
 use mathlib.Core.Bool.{Bool, true, false}
 use mathlib.Core.List.{List, [], ◌∷◌, ◌++◌}
-use Prim.Native.Nat.{ℕ, zero, suc, ◌+◌, ◌-◌, ◌*◌, ◌/◌, ◌%◌, ◌≤◌, ◌<◌, max}
+use Prim.Native.Nat.{ℕ, ◌+◌, ◌-◌, ◌*◌, ◌/◌, ◌%◌, ◌≤◌, ◌<◌, max}
 use native.Mathlib.Nat.{add-mod-mod}
 use native.Mathlib.Omega.{arith}
 use lib.Dec.{ltb}
 use lib.ListN.{length, take, drop, length-append, length-take, length-drop, take-append-drop}
-use lib.Seq.{take_at, drop_at, take-append-le, length-take-le, take-take}
+use lib.Seq.{take_at, drop_at, length-take-le}
 use borrow.Author.Tests.{ltb-true, ltb-false, lt-ltb, le-ltb}
-use Rattle.packed.specs.Format.{pick, column_widths, total, data_len, numbers, stored, walked, wrapping_sum}
-use Rattle.packed.specs.Refusals.{Lent, Row, not_fours, too_many_groups, other_tags, missing_data, tail_overrun, group_limit, applies, first_of, lent_to_decode, lent_to_read, decoding_rows, skipping_rows}
+use Rattle.packed.specs.Format.{pick, column_widths, total, data_len, stored, walked, wrapping_sum}
+use Rattle.packed.specs.Refusals.{Lent, too_many_groups, other_tags, missing_data, tail_overrun, group_limit, applies, first_of, lent_to_decode, lent_to_read}
 use Rattle.packed.specs.Calls.{Answer, Decoded, accepted, decoded, decoding_by, decoding_deltas, skipping}
 use Rattle.packed.proofs.Columns.{stored-length}
 use Rattle.packed.proofs.Deltas.{walked-append, walked-length}

@@ -1,7 +1,7 @@
 -- Demand 1: each call's number is k exactly when row k applies and no earlier row of that call does; a refused outcome has count 0,
 -- sum 0 and all buffers unaltered. (That every input has an outcome is the calls' own proof: none asks anything of its caller, and each
 -- returns.) Assumes nothing.
-use mathlib.Core.Path.{◌≡◌, refl, ap, sym, ◌∙◌, subst}
+use mathlib.Core.Path.{◌≡◌, refl, ap, sym, ◌∙◌}
 use mathlib.Core.Bool.{Bool, true, false}
 use mathlib.Core.Logic.{◌↔◌}
 use mathlib.Core.List.{List, [], ◌∷◌, ◌++◌}
@@ -9,9 +9,9 @@ use Prim.Native.Nat.{ℕ, zero, suc, ◌<◌}
 use native.Mathlib.Omega.{arith}
 use lib.Dec.{T, ltb, ltb→lt}
 use lib.ListN.{length}
-use Rattle.packed.specs.Format.{pick, data_len, stored, walked, wrapping_sum}
+use Rattle.packed.specs.Format.{pick}
 use Rattle.packed.specs.Refusals.{Lent, Row, number, applies, first_of, lent_to_encode, lent_to_decode, lent_to_read, encoding_rows, decoding_rows, skipping_rows, tightness_rows, length_rows}
-use Rattle.packed.specs.Calls.{Answer, Encoded, Decoded, Tightness, untested, refused, accepted, unless_refused, encoded, encoding, decoded, decoding_by, skipping, measuring, testing}
+use Rattle.packed.specs.Calls.{Answer, Encoded, Decoded, untested, refused, unless_refused, encoded, encoding, decoded, decoding_by, skipping, measuring, testing}
 use Rattle.packed.proofs.Rows.{passed}
 use Rattle.packed.proofs.Table.{both, both_left, both_right}
 

@@ -4,15 +4,15 @@ use mathlib.Core.Path.{◌≡◌, refl, ap, ap₂, sym, ◌∙◌, subst}
 use mathlib.Core.Bool.{Bool, true, false}
 use mathlib.Core.Logic.{◌↔◌}
 use mathlib.Core.List.{List, [], ◌∷◌, ◌++◌, map, map-append}
-use Prim.Native.Nat.{ℕ, zero, suc, ◌+◌, ◌-◌, ◌*◌, ◌/◌, ◌%◌, ◌^◌, ◌≤◌, ◌<◌, zero-le}
+use Prim.Native.Nat.{ℕ, zero, suc, ◌+◌, ◌*◌, ◌/◌, ◌%◌, ◌^◌, ◌≤◌, ◌<◌, zero-le}
 use native.Mathlib.Nat.{suc_inj, mod-lt, mod-eq_of_lt, div-one, add-mul-div_left, add-mul-mod_self_left, div-eq_of_lt, div-div-eq-div-mul, zero-add, lt_of_lt_of_le, pow-le-pow_right, not-suc-le-zero, le_of_suc-le-suc, le_antisymm, lt_irrefl, lt_of_not-le}
 use native.Mathlib.Omega.{arith}
-use lib.Dec.{T, eqb, leb, ltb, lit<, ltb→lt}
+use lib.Dec.{T, eqb, ltb, lit<, ltb→lt}
 use lib.ListN.{length, take, drop, get_or, length-drop, length-map}
 use lib.Seq.{take_at, drop_at, take-add}
-use borrow.Author.Tests.{eq-eqb, eqb-true, eqb-false}
+use borrow.Author.Tests.{eq-eqb, eqb-true}
 use Rattle.packed.specs.Format.{pick, field, widths, column_widths, total, data_len, numbers, stored, le_value, le_bytes, shortest, short_width, tag_of, tags_of, bytes_of}
-use Rattle.packed.specs.Calls.{Tightness, tight, loose, tight_run, tightness_of}
+use Rattle.packed.specs.Calls.{tight, loose, tight_run, tightness_of}
 use Rattle.packed.proofs.Bytes.{Below, below-drop, byte_power_pos, le_value-below}
 use Rattle.packed.proofs.Columns.{column_length}
 use Rattle.packed.proofs.Ends.{Table}

@@ -9,7 +9,7 @@ use Rattle.packed.specs.Format.{field, t1234, t0124, m32, widths, data_len, stor
 use Rattle.packed.specs.Stages.{eights, staged, tail_takes, tail_copied}
 use Rattle.packed.specs.Calls.{accepted, decoded, encoding, decoding_by, decoding, decoding_deltas, skipping}
 use Rattle.packed.proofs.Bytes.{Below}
-use Rattle.packed.proofs.Coders.{table1234, table0124}
+use Rattle.packed.proofs.Coders.{table1234}
 use Rattle.theorems.proofs.Format.{decoding_gives_back}
 use Rattle.theorems.proofs.MoreMaterial.{decode_from_the_cut}
 

@@ -1,9 +1,5 @@
-use mathlib.Core.Path.{refl}
-use Prim.Native.Nat.{◌-◌}
-use native.Mathlib.Omega.{arith}
 use Rattle.packed.specs.Format.{t0124}
-use Rattle.packed.proofs.Coders.{table0124}
-use Rattle.packed.proofs.Encodes.{encodes_most, RunningEncode, running_encode_start, running_encode_next, running_encode_done}
+use Rattle.packed.proofs.Encodes.{RunningEncode}
 use Rattle.encode_impl0124.proofs.encode_exactly.Given as goal
 
 abbrev pub invariant-loop-i : goal.invariant-loop-i

@@ -1,10 +1,5 @@
-use mathlib.Core.Path.{refl}
-use Prim.Native.Nat.{◌-◌}
-use native.Mathlib.Omega.{arith}
 use Rattle.packed.specs.Format.{t1248, m64}
-use Rattle.packed.proofs.Coders.{table1248}
-use Rattle.packed.proofs.Deltas.{steps-length}
-use Rattle.packed.proofs.Encodes.{encodes_most, RunningSteps, running_steps_start, running_steps_next, running_encode_done}
+use Rattle.packed.proofs.Encodes.{RunningSteps}
 use Rattle.encode_impl1248.proofs.encode_deltas_exactly.Given as goal
 
 abbrev pub invariant-loop-i : goal.invariant-loop-i

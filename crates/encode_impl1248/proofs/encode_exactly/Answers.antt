@@ -1,11 +1,10 @@
 -- `encode_exactly` meets its contract: by the laws of its loop.
 use Rattle.std.proofs.Common.{rules}
 use mathlib.Core.Path.{refl}
-use Prim.Native.Nat.{◌-◌}
 use native.Mathlib.Omega.{arith}
 use Rattle.packed.specs.Format.{t1248}
 use Rattle.packed.proofs.Coders.{table1248}
-use Rattle.packed.proofs.Encodes.{encodes_most, RunningEncode, running_encode_start, running_encode_next, running_encode_done}
+use Rattle.packed.proofs.Encodes.{encodes_most, running_encode_start, running_encode_next, running_encode_done}
 use Rattle.encode_impl1248.proofs.encode_exactly.Goals as goal
 
 pub loop-i-init : goal.loop-i-init

@@ -2,13 +2,11 @@
 use Rattle.std.proofs.Common.{rules}
 use mathlib.Core.Path.{refl}
 use mathlib.Core.List.{[], ◌∷◌}
-use Prim.Native.Nat.{◌+◌, ◌-◌, ◌≤◌}
 use native.Mathlib.Omega.{arith}
-use lib.ListN.{length}
 use Rattle.packed.specs.Format.{t0124, m32}
 use Rattle.packed.proofs.Coders.{table0124}
 use Rattle.packed.proofs.Deltas.{steps-length}
-use Rattle.wide_stores.proofs.Columns.{by_zeros, encodes_wide_most, RunningWideSteps, running_wide_steps_start, running_wide_steps_next, running_wide_steps_done}
+use Rattle.wide_stores.proofs.Columns.{by_zeros, encodes_wide_most, running_wide_steps_start, running_wide_steps_next, running_wide_steps_done}
 use Rattle.fast_encode0124.proofs.encode_deltas_front.Goals as goal
 
 pub loop-i-init : goal.loop-i-init

@@ -2,12 +2,10 @@
 use Rattle.std.proofs.Common.{rules}
 use mathlib.Core.Path.{refl}
 use mathlib.Core.List.{[], ◌∷◌}
-use Prim.Native.Nat.{◌+◌, ◌-◌, ◌≤◌}
 use native.Mathlib.Omega.{arith}
-use lib.ListN.{length}
 use Rattle.packed.specs.Format.{t1234}
 use Rattle.packed.proofs.Coders.{table1234}
-use Rattle.wide_stores.proofs.Columns.{by_zeros, encodes_wide_most, RunningWide, running_wide_start, running_wide_next, running_wide_done}
+use Rattle.wide_stores.proofs.Columns.{by_zeros, encodes_wide_most, running_wide_start, running_wide_next, running_wide_done}
 use Rattle.fast_encode1234.proofs.encode_front.Goals as goal
 
 pub loop-i-init : goal.loop-i-init

@@ -1,6 +1,5 @@
 -- `store_word` meets its contract: by the laws of `store`.
-use Prim.Native.Nat.{ℕ, ◌-◌}
-use Rattle.packed.proofs.Loops.{Storing, storing_start, storing_next, storing_done}
+use Rattle.packed.proofs.Loops.{storing_start, storing_next, storing_done}
 use Rattle.fast_encode1234.proofs.store_word.Goals as goal
 
 pub loop-i-init : goal.loop-i-init

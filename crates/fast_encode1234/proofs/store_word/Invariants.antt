@@ -1,5 +1,4 @@
-use Prim.Native.Nat.{ℕ, ◌-◌}
-use Rattle.packed.proofs.Loops.{Storing, storing_start, storing_next, storing_done}
+use Rattle.packed.proofs.Loops.{Storing}
 use Rattle.fast_encode1234.proofs.store_word.Given as goal
 
 abbrev pub invariant-loop-i : goal.invariant-loop-i

@@ -1,10 +1,10 @@
 -- `deltas_front_end` meets its contract: by the laws of its loop.
 use Rattle.std.proofs.Common.{rules}
 use mathlib.Core.Path.{◌∙◌}
-use Prim.Native.Nat.{◌+◌, ◌-◌, ◌*◌}
+use Prim.Native.Nat.{◌-◌, ◌*◌}
 use native.Mathlib.Omega.{arith}
 use Rattle.packed.specs.Format.{t0124, m32, steps}
-use Rattle.wide_stores.proofs.Ends.{Searching, searching_start, searching_next, searching_found, searching_none, steps_of_group}
+use Rattle.wide_stores.proofs.Ends.{searching_start, searching_next, searching_found, searching_none, steps_of_group}
 use Rattle.front_end0124.proofs.deltas_front_end.Goals as goal
 
 pub loop-front-init : goal.loop-front-init

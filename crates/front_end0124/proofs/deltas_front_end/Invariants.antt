@@ -1,8 +1,5 @@
-use mathlib.Core.Path.{◌∙◌}
-use Prim.Native.Nat.{◌+◌, ◌-◌, ◌*◌}
-use native.Mathlib.Omega.{arith}
 use Rattle.packed.specs.Format.{t0124, m32, steps}
-use Rattle.wide_stores.proofs.Ends.{Searching, searching_start, searching_next, searching_found, searching_none, steps_of_group}
+use Rattle.wide_stores.proofs.Ends.{Searching}
 use Rattle.front_end0124.proofs.deltas_front_end.Given as goal
 
 abbrev pub invariant-loop-front : goal.invariant-loop-front

@@ -1,10 +1,8 @@
 -- `front_end` meets its contract: by the laws of its loop.
 use Rattle.std.proofs.Common.{rules}
-use mathlib.Core.Path.{refl}
-use Prim.Native.Nat.{◌+◌, ◌-◌, ◌*◌}
 use native.Mathlib.Omega.{arith}
 use Rattle.packed.specs.Format.{t0124}
-use Rattle.wide_stores.proofs.Ends.{Searching, searching_start, searching_next, searching_found, searching_none}
+use Rattle.wide_stores.proofs.Ends.{searching_start, searching_next, searching_found, searching_none}
 use Rattle.front_end0124.proofs.front_end.Goals as goal
 
 pub loop-front-init : goal.loop-front-init

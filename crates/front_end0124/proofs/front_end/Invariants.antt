@@ -1,8 +1,5 @@
-use mathlib.Core.Path.{refl}
-use Prim.Native.Nat.{◌+◌, ◌-◌, ◌*◌}
-use native.Mathlib.Omega.{arith}
 use Rattle.packed.specs.Format.{t0124}
-use Rattle.wide_stores.proofs.Ends.{Searching, searching_start, searching_next, searching_found, searching_none}
+use Rattle.wide_stores.proofs.Ends.{Searching}
 use Rattle.front_end0124.proofs.front_end.Given as goal
 
 abbrev pub invariant-loop-front : goal.invariant-loop-front

@@ -1,8 +1,6 @@
-use Rattle.std.proofs.Common.{◌+◌, ◌-◌, get_or, arith, rules}
-use Rattle.packed.proofs.Ends.{group_most}
-use Rattle.packed.proofs.Runs.{Running, window, running_from, running_step, running_done}
+use Rattle.std.proofs.Common.{◌+◌}
+use Rattle.packed.proofs.Runs.{Running}
 use Rattle.packed.specs.Format.{t0124}
-use Rattle.packed.proofs.Coders.{table0124}
 use Rattle.places.specs.Places.{Places, Sides}
 use Rattle.runs0124.proofs.decode8.Given as goal
 

@@ -1,9 +1,6 @@
-use Rattle.std.proofs.Common.{◌+◌, ◌-◌, get_or, arith, w32, rules}
-use Rattle.packed.proofs.Bytes.{Below, below_fits}
-use Rattle.packed.proofs.Ends.{group_most}
-use Rattle.packed.proofs.Runs.{RunningDeltas, window, running_deltas_from, running_deltas_step, running_deltas_done}
+use Rattle.std.proofs.Common.{◌+◌, get_or}
+use Rattle.packed.proofs.Runs.{RunningDeltas}
 use Rattle.packed.specs.Format.{t0124, m32}
-use Rattle.packed.proofs.Coders.{table0124}
 use Rattle.places.specs.Places.{Places, Halves}
 use Rattle.runs0124.proofs.decode_deltas8.Given as goal
 

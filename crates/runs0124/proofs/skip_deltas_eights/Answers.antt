@@ -1,8 +1,7 @@
 -- `skip_deltas_eights` meets its contract: by the laws of its loop.
-use Rattle.std.proofs.Common.{◌≡◌, ◌+◌, ◌-◌, ◌%◌, arith, lit<, rules}
-use Rattle.packed.proofs.Runs.{RunningSum, windows_part, running_sum_start, running_sum_part, running_sum_done}
-use Rattle.packed.specs.Format.{t0124, m32}
-use Rattle.places.specs.Places.{Places, Halves}
+use Rattle.std.proofs.Common.{◌+◌, arith, lit<, rules}
+use Rattle.packed.proofs.Runs.{windows_part, running_sum_start, running_sum_part, running_sum_done}
+use Rattle.packed.specs.Format.{t0124}
 use Rattle.runs0124.proofs.skip_deltas_eights.Goals as goal
 
 pub returns-then-to-eq0 : goal.returns-then-to-eq0

@@ -1,5 +1,5 @@
-use Rattle.std.proofs.Common.{◌≡◌, ◌+◌, ◌-◌, ◌%◌, arith, lit<, rules}
-use Rattle.packed.proofs.Runs.{RunningSum, windows_part, running_sum_start, running_sum_part, running_sum_done}
+use Rattle.std.proofs.Common.{◌≡◌, ◌-◌, ◌%◌}
+use Rattle.packed.proofs.Runs.{RunningSum}
 use Rattle.packed.specs.Format.{t0124, m32}
 use Rattle.places.specs.Places.{Places, Halves}
 use Rattle.runs0124.proofs.skip_deltas_eights.Given as goal

@@ -1,8 +1,6 @@
-use Rattle.std.proofs.Common.{◌≡◌, ◌-◌, get_or, arith, rules}
-use Rattle.packed.proofs.Ends.{group_most}
-use Rattle.packed.proofs.Runs.{RunningSum, window, running_sum_start, running_sum_next, running_sum_done}
+use Rattle.std.proofs.Common.{◌≡◌}
+use Rattle.packed.proofs.Runs.{RunningSum}
 use Rattle.packed.specs.Format.{t0124, m32}
-use Rattle.packed.proofs.Coders.{table0124}
 use Rattle.tag_utils.specs.Tables.{masks}
 use Rattle.runs0124.proofs.skip_deltas_singles.Given as goal
 

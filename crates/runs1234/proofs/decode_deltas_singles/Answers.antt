@@ -1,11 +1,10 @@
 -- `decode_deltas_singles` meets its contract: by the laws of its loop.
-use Rattle.std.proofs.Common.{◌≡◌, ◌-◌, get_or, arith, w32, rules}
+use Rattle.std.proofs.Common.{get_or, arith, w32, rules}
 use Rattle.packed.proofs.Bytes.{Below, below_fits}
 use Rattle.packed.proofs.Ends.{group_most}
-use Rattle.packed.proofs.Runs.{RunningDeltas, window, running_deltas_start, running_deltas_next, running_deltas_done}
+use Rattle.packed.proofs.Runs.{window, running_deltas_start, running_deltas_next, running_deltas_done}
 use Rattle.packed.specs.Format.{t1234, m32}
 use Rattle.packed.proofs.Coders.{table1234}
-use Rattle.tag_utils.specs.Tables.{masks}
 use Rattle.runs1234.proofs.decode_deltas_singles.Goals as goal
 
 pub loop-i-init : goal.loop-i-init

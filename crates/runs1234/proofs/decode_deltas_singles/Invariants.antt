@@ -1,9 +1,6 @@
-use Rattle.std.proofs.Common.{◌≡◌, ◌-◌, get_or, arith, w32, rules}
-use Rattle.packed.proofs.Bytes.{Below, below_fits}
-use Rattle.packed.proofs.Ends.{group_most}
-use Rattle.packed.proofs.Runs.{RunningDeltas, window, running_deltas_start, running_deltas_next, running_deltas_done}
+use Rattle.std.proofs.Common.{◌≡◌, get_or}
+use Rattle.packed.proofs.Runs.{RunningDeltas}
 use Rattle.packed.specs.Format.{t1234, m32}
-use Rattle.packed.proofs.Coders.{table1234}
 use Rattle.tag_utils.specs.Tables.{masks}
 use Rattle.runs1234.proofs.decode_deltas_singles.Given as goal
 

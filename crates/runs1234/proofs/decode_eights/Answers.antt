@@ -1,8 +1,7 @@
 -- `decode_eights` meets its contract: by the laws of its loop.
-use Rattle.std.proofs.Common.{◌≡◌, ◌+◌, ◌-◌, ◌%◌, arith, rules}
-use Rattle.packed.proofs.Runs.{Running, windows_part, running_start, running_part, running_done}
+use Rattle.std.proofs.Common.{◌+◌, arith, rules}
+use Rattle.packed.proofs.Runs.{windows_part, running_start, running_part, running_done}
 use Rattle.packed.specs.Format.{t1234}
-use Rattle.places.specs.Places.{Places, Sides}
 use Rattle.runs1234.proofs.decode_eights.Goals as goal
 
 pub returns-then-to-eq0 : goal.returns-then-to-eq0

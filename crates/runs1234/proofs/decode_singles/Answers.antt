@@ -1,10 +1,9 @@
 -- `decode_singles` meets its contract: by the laws of its loop.
-use Rattle.std.proofs.Common.{◌≡◌, ◌-◌, get_or, arith, rules}
+use Rattle.std.proofs.Common.{get_or, arith}
 use Rattle.packed.proofs.Ends.{group_most}
-use Rattle.packed.proofs.Runs.{Running, window, running_start, running_next, running_done}
+use Rattle.packed.proofs.Runs.{window, running_start, running_next, running_done}
 use Rattle.packed.specs.Format.{t1234}
 use Rattle.packed.proofs.Coders.{table1234}
-use Rattle.tag_utils.specs.Tables.{masks}
 use Rattle.runs1234.proofs.decode_singles.Goals as goal
 
 pub loop-i-init : goal.loop-i-init

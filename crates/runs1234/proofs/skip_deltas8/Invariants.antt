@@ -1,8 +1,6 @@
-use Rattle.std.proofs.Common.{◌+◌, ◌-◌, get_or, arith, rules}
-use Rattle.packed.proofs.Ends.{group_most}
-use Rattle.packed.proofs.Runs.{RunningSum, window, running_sum_from, running_sum_step, running_sum_done}
+use Rattle.std.proofs.Common.{◌+◌}
+use Rattle.packed.proofs.Runs.{RunningSum}
 use Rattle.packed.specs.Format.{t1234, m32}
-use Rattle.packed.proofs.Coders.{table1234}
 use Rattle.places.specs.Places.{Places, Halves}
 use Rattle.runs1234.proofs.skip_deltas8.Given as goal
 

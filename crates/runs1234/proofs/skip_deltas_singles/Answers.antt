@@ -1,10 +1,9 @@
 -- `skip_deltas_singles` meets its contract: by the laws of its loop.
-use Rattle.std.proofs.Common.{◌≡◌, ◌-◌, get_or, arith, rules}
+use Rattle.std.proofs.Common.{get_or, arith, rules}
 use Rattle.packed.proofs.Ends.{group_most}
-use Rattle.packed.proofs.Runs.{RunningSum, window, running_sum_start, running_sum_next, running_sum_done}
-use Rattle.packed.specs.Format.{t1234, m32}
+use Rattle.packed.proofs.Runs.{window, running_sum_start, running_sum_next, running_sum_done}
+use Rattle.packed.specs.Format.{t1234}
 use Rattle.packed.proofs.Coders.{table1234}
-use Rattle.tag_utils.specs.Tables.{masks}
 use Rattle.runs1234.proofs.skip_deltas_singles.Goals as goal
 
 pub loop-i-init : goal.loop-i-init

@@ -1,10 +1,9 @@
 -- `decode8` meets its contract: by the laws of its loop.
-use Rattle.std.proofs.Common.{◌+◌, ◌-◌, get_or, arith, rules}
+use Rattle.std.proofs.Common.{◌+◌, get_or, arith}
 use Rattle.packed.proofs.Ends.{group_most}
-use Rattle.packed.proofs.Runs.{Running, window, running_from, running_step, running_done}
+use Rattle.packed.proofs.Runs.{window, running_from, running_step, running_done}
 use Rattle.packed.specs.Format.{t1248}
 use Rattle.packed.proofs.Coders.{table1248}
-use Rattle.places.specs.Places.{Places, Halves}
 use Rattle.runs1248.proofs.decode8.Goals as goal
 
 pub loop-k-init : goal.loop-k-init

@@ -1,9 +1,8 @@
 -- `decode_deltas_eights` meets its contract: by the laws of its loop.
-use Rattle.std.proofs.Common.{◌≡◌, ◌+◌, ◌-◌, ◌%◌, get_or, arith, w64, rules}
+use Rattle.std.proofs.Common.{◌+◌, arith, w64, rules}
 use Rattle.packed.proofs.Bytes.{Below, below_fits}
-use Rattle.packed.proofs.Runs.{RunningDeltas, windows_part, running_deltas_start, running_deltas_part, running_deltas_done}
+use Rattle.packed.proofs.Runs.{windows_part, running_deltas_start, running_deltas_part, running_deltas_done}
 use Rattle.packed.specs.Format.{t1248, m64}
-use Rattle.places.specs.Places.{Places, Halves}
 use Rattle.runs1248.proofs.decode_deltas_eights.Goals as goal
 
 pub returns-then-to-eq0 : goal.returns-then-to-eq0

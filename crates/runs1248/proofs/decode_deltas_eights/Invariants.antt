@@ -1,6 +1,5 @@
-use Rattle.std.proofs.Common.{◌≡◌, ◌+◌, ◌-◌, ◌%◌, get_or, arith, w64, rules}
-use Rattle.packed.proofs.Bytes.{Below, below_fits}
-use Rattle.packed.proofs.Runs.{RunningDeltas, windows_part, running_deltas_start, running_deltas_part, running_deltas_done}
+use Rattle.std.proofs.Common.{◌≡◌, ◌-◌, ◌%◌, get_or}
+use Rattle.packed.proofs.Runs.{RunningDeltas}
 use Rattle.packed.specs.Format.{t1248, m64}
 use Rattle.places.specs.Places.{Places, Halves}
 use Rattle.runs1248.proofs.decode_deltas_eights.Given as goal

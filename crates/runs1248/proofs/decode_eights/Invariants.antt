@@ -1,5 +1,5 @@
-use Rattle.std.proofs.Common.{◌≡◌, ◌+◌, ◌-◌, ◌%◌, arith, rules}
-use Rattle.packed.proofs.Runs.{Running, windows_part, running_start, running_part, running_done}
+use Rattle.std.proofs.Common.{◌≡◌, ◌-◌, ◌%◌}
+use Rattle.packed.proofs.Runs.{Running}
 use Rattle.packed.specs.Format.{t1248}
 use Rattle.places.specs.Places.{Places, Halves}
 use Rattle.runs1248.proofs.decode_eights.Given as goal

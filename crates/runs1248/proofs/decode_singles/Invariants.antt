@@ -1,8 +1,6 @@
-use Rattle.std.proofs.Common.{◌≡◌, ◌-◌, get_or, arith, rules}
-use Rattle.packed.proofs.Ends.{group_most}
-use Rattle.packed.proofs.Runs.{Running, window, running_start, running_next, running_done}
+use Rattle.std.proofs.Common.{◌≡◌}
+use Rattle.packed.proofs.Runs.{Running}
 use Rattle.packed.specs.Format.{t1248}
-use Rattle.packed.proofs.Coders.{table1248}
 use Rattle.tag_utils.specs.Tables.{masks}
 use Rattle.runs1248.proofs.decode_singles.Given as goal
 

@@ -1,9 +1,8 @@
 -- `data_len_fours` meets its contract: by the laws of its loop.
-use Prim.Native.Nat.{◌-◌}
 use native.Mathlib.Omega.{arith}
 use Rattle.packed.specs.Format.{t0124}
 use Rattle.packed.proofs.Coders.{table0124}
-use Rattle.tag_words.proofs.Lengths.{ByFours, by_fours_start, by_fours_next, by_fours_done}
+use Rattle.tag_words.proofs.Lengths.{by_fours_start, by_fours_next, by_fours_done}
 use Rattle.stage_ends0124.proofs.data_len_fours.Goals as goal
 
 pub loop-k-init : goal.loop-k-init

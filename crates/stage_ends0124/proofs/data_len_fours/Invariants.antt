@@ -1,8 +1,6 @@
-use Prim.Native.Nat.{◌-◌}
-use native.Mathlib.Omega.{arith}
 use Rattle.packed.specs.Format.{t0124}
 use Rattle.packed.proofs.Coders.{table0124}
-use Rattle.tag_words.proofs.Lengths.{ByFours, by_fours_start, by_fours_next, by_fours_done}
+use Rattle.tag_words.proofs.Lengths.{ByFours}
 use Rattle.stage_ends0124.proofs.data_len_fours.Given as goal
 
 abbrev pub invariant-loop-k : goal.invariant-loop-k

@@ -1,14 +1,12 @@
 -- `data_len_from` meets its contract: the fours, and then one length after the other.
 use mathlib.Core.Path.{◌≡◌, subst}
-use Prim.Native.Nat.{ℕ, ◌-◌, ◌≤◌}
+use Prim.Native.Nat.{ℕ}
 use native.Mathlib.Omega.{arith}
 use lib.ListN.{length, get_or}
 use Rattle.packed.proofs.Ends.{group_most, measured_one, measured_join}
 use Rattle.packed.specs.Column.{Measured}
 use Rattle.packed.specs.Format.{t0124}
-use Rattle.packed.specs.Refusals.{group_limit}
 use Rattle.packed.proofs.Coders.{table0124}
-use Rattle.tag_utils.specs.Tables.{Lengths}
 use Rattle.stage_ends0124.proofs.data_len_from.Goals as goal
 
 pub data_len_fours-len-requires : goal.data_len_fours-len-requires

@@ -1,7 +1,6 @@
 use Prim.Native.Nat.{◌-◌}
-use native.Mathlib.Omega.{arith}
-use lib.ListN.{length, get_or}
-use Rattle.packed.proofs.Ends.{group_most, AtSingles, at_singles_start, at_singles_next, at_singles_stop, at_singles_out}
+use lib.ListN.{length}
+use Rattle.packed.proofs.Ends.{AtSingles}
 use Rattle.packed.specs.Format.{t0124}
 use Rattle.packed.proofs.Coders.{table0124}
 use Rattle.tag_utils.specs.Tables.{Lengths}

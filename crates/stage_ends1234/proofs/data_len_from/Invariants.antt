@@ -1,12 +1,8 @@
-use mathlib.Core.Path.{◌≡◌, subst}
-use Prim.Native.Nat.{ℕ, ◌-◌, ◌≤◌}
-use native.Mathlib.Omega.{arith}
-use lib.ListN.{length, get_or}
-use Rattle.packed.proofs.Ends.{group_most, measured_one, measured_join}
+use Prim.Native.Nat.{◌≤◌}
+use lib.ListN.{length}
 use Rattle.packed.specs.Column.{Measured}
 use Rattle.packed.specs.Format.{t1234}
 use Rattle.packed.specs.Refusals.{group_limit}
-use Rattle.packed.proofs.Coders.{table1234}
 use Rattle.tag_utils.specs.Tables.{Lengths}
 use Rattle.stage_ends1234.proofs.data_len_from.Given as goal
 

@@ -1,11 +1,9 @@
 use Prim.Native.Nat.{◌-◌}
-use native.Mathlib.Omega.{arith}
 use lib.ListN.{length}
-use Rattle.packed.proofs.Ends.{AtEights, at_eights_next, at_eights_stop, at_eights_out}
+use Rattle.packed.proofs.Ends.{AtEights}
 use Rattle.packed.specs.Format.{t1234}
 use Rattle.packed.proofs.Coders.{table1234}
 use Rattle.tag_utils.specs.Tables.{Lengths}
-use Rattle.tag_words.proofs.Front.{at_eights_front}
 use Rattle.stage_ends1234.proofs.eights_end.Given as goal
 
 abbrev pub invariant-loop-i : goal.invariant-loop-i

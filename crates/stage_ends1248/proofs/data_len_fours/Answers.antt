@@ -1,9 +1,8 @@
 -- `data_len_fours` meets its contract: by the laws of its loop.
-use Prim.Native.Nat.{◌-◌}
 use native.Mathlib.Omega.{arith}
 use Rattle.packed.specs.Format.{t1248}
 use Rattle.packed.proofs.Coders.{table1248}
-use Rattle.tag_words.proofs.Lengths.{ByFours, by_fours_start, by_fours_next, by_fours_done}
+use Rattle.tag_words.proofs.Lengths.{by_fours_start, by_fours_next, by_fours_done}
 use Rattle.stage_ends1248.proofs.data_len_fours.Goals as goal
 
 pub loop-k-init : goal.loop-k-init

@@ -1,11 +1,8 @@
 -- `eights_end` meets its contract: by the laws of its loop.
-use Prim.Native.Nat.{◌-◌}
 use native.Mathlib.Omega.{arith}
-use lib.ListN.{length}
-use Rattle.packed.proofs.Ends.{AtEights, at_eights_next, at_eights_stop, at_eights_out}
+use Rattle.packed.proofs.Ends.{at_eights_next, at_eights_stop, at_eights_out}
 use Rattle.packed.specs.Format.{t1248}
 use Rattle.packed.proofs.Coders.{table1248}
-use Rattle.tag_utils.specs.Tables.{Lengths}
 use Rattle.tag_words.proofs.Front.{at_eights_front}
 use Rattle.stage_ends1248.proofs.eights_end.Goals as goal
 

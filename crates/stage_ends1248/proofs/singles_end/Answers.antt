@@ -1,11 +1,9 @@
 -- `singles_end` meets its contract: by the laws of its loop.
-use Prim.Native.Nat.{◌-◌}
 use native.Mathlib.Omega.{arith}
-use lib.ListN.{length, get_or}
-use Rattle.packed.proofs.Ends.{group_most, AtSingles, at_singles_start, at_singles_next, at_singles_stop, at_singles_out}
+use lib.ListN.{get_or}
+use Rattle.packed.proofs.Ends.{group_most, at_singles_start, at_singles_next, at_singles_stop, at_singles_out}
 use Rattle.packed.specs.Format.{t1248}
 use Rattle.packed.proofs.Coders.{table1248}
-use Rattle.tag_utils.specs.Tables.{Lengths}
 use Rattle.stage_ends1248.proofs.singles_end.Goals as goal
 
 pub loop-i-init : goal.loop-i-init

@@ -1,8 +1,7 @@
-use mathlib.Core.Path.{◌≡◌, refl}
+use mathlib.Core.Path.{◌≡◌}
 use Prim.Native.Nat.{◌-◌, ◌≤◌}
-use native.Mathlib.Omega.{arith}
-use lib.ListN.{length, length-set}
-use Rattle.packed.proofs.Columns.{Copying, copying_start, copying_next, copying_done}
+use lib.ListN.{length}
+use Rattle.packed.proofs.Columns.{Copying}
 use Rattle.stages0124.proofs.scratch.Given as goal
 
 abbrev pub invariant-loop-k : goal.invariant-loop-k

@@ -1,10 +1,9 @@
 -- `scratch` meets its contract: by the laws of its loop.
 use Rattle.std.proofs.Common.{rules}
-use mathlib.Core.Path.{◌≡◌, refl}
-use Prim.Native.Nat.{◌-◌, ◌≤◌}
+use mathlib.Core.Path.{refl}
 use native.Mathlib.Omega.{arith}
-use lib.ListN.{length, length-set}
-use Rattle.packed.proofs.Columns.{Copying, copying_start, copying_next, copying_done}
+use lib.ListN.{length-set}
+use Rattle.packed.proofs.Columns.{copying_start, copying_next, copying_done}
 use Rattle.stages1248.proofs.scratch.Goals as goal
 
 pub loop-k-init : goal.loop-k-init

@@ -1,6 +1,5 @@
 -- `skip_deltas_stages` meets its contract: three runs, one behind the other.
 use Prim.Native.Nat.{zero-le}
-use native.Mathlib.Omega.{arith}
 use Rattle.packed.proofs.Columns.{sum_join_runs}
 use Rattle.packed.proofs.Ends.{first-stage, second-start, tail-start, eights-whole, eights-before, groups-in, all-groups}
 use Rattle.packed.specs.Format.{t1248}

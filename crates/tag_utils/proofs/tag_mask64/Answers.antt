@@ -1,5 +1,5 @@
 -- `tag_utils::tag_mask64` meets its contract: by the law of a shifted one, at 8 bytes.
-use mathlib.Core.Path.{◌≡◌, ap, sym}
+use mathlib.Core.Path.{ap, sym}
 use Prim.Native.Nat.{ℕ, ◌-◌, ◌^◌}
 use native.Mathlib.Omega.{arith}
 use Rattle.packed.proofs.Bytes.{shifted_one, byte_power_pos}

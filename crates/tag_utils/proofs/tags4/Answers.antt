@@ -1,6 +1,6 @@
 -- `tag_utils::tags4` meets its contract: four tags, low byte first.
 use mathlib.Core.List.{List}
-use Prim.Native.Nat.{ℕ, ◌+◌}
+use Prim.Native.Nat.{ℕ}
 use native.Mathlib.Omega.{arith}
 use Rattle.packed.proofs.Bytes.{le_value_head, le_value_next}
 use Rattle.tag_utils.proofs.tags4.Goals as goal

@@ -1,11 +1,8 @@
-use mathlib.Core.Path.{◌≡◌, refl, sym, ◌∙◌}
-use Prim.Native.Nat.{◌-◌}
-use native.Mathlib.Omega.{arith}
+use mathlib.Core.Path.{◌≡◌}
 use lib.ListN.{length}
 use Rattle.packed.specs.Calls.{tight}
 use Rattle.packed.specs.Format.{t0124}
-use Rattle.packed.proofs.Loops.{lent-width}
-use Rattle.packed.proofs.Tight.{AtGroup, AtNumber, at_group_start, at_group_done, at_number_start, at_number_there, at_number_next, at_number_loose, at_number_done}
+use Rattle.packed.proofs.Tight.{AtGroup, AtNumber}
 use Rattle.answers.specs.Meaning.{place_of}
 use Rattle.tightness0124.proofs.first_loose.Given as goal
 

@@ -1,7 +1,7 @@
 -- `stored_number` meets its contract: by the laws of its loop.
 use Rattle.std.proofs.Common.{rules}
 use native.Mathlib.Omega.{arith}
-use Rattle.packed.proofs.Tight.{Gathering, gathering_start, gathering_next, gathering_next_fits, gathering_done}
+use Rattle.packed.proofs.Tight.{gathering_start, gathering_next, gathering_next_fits, gathering_done}
 use Rattle.tightness0124.proofs.stored_number.Goals as goal
 
 pub loop-k-init : goal.loop-k-init

@@ -1,5 +1,4 @@
-use native.Mathlib.Omega.{arith}
-use Rattle.packed.proofs.Tight.{Gathering, gathering_start, gathering_next, gathering_next_fits, gathering_done}
+use Rattle.packed.proofs.Tight.{Gathering}
 use Rattle.tightness1248.proofs.stored_number.Given as goal
 
 abbrev pub invariant-loop-k : goal.invariant-loop-k

@@ -1,5 +1,4 @@
 -- `tag_max` meets its contract: no width is above 4.
-use Rattle.std.proofs.Common.{rules}
 use Rattle.packed.specs.Format.{t0124}
 use Rattle.packed.proofs.Loops.{at_most}
 use Rattle.raw_group0124.proofs.coding_descriptor.tag_max.Goals as goal

@@ -1,8 +1,7 @@
 -- `decode` meets its contract: by the laws of its loop.
-use Rattle.std.proofs.Common.{◌≡◌, ℕ, ◌-◌, ◌%◌, arith, rules}
+use Rattle.std.proofs.Common.{ℕ, ◌%◌, arith}
 use Rattle.packed.specs.Format.{t0124}
-use Rattle.packed.proofs.Loops.{lent-width, lent_mask, Decoding, decoding_start, decoding_next, decoding_done}
-use Rattle.tag_utils.specs.Tables.{masks}
+use Rattle.packed.proofs.Loops.{lent-width, lent_mask, decoding_start, decoding_next, decoding_done}
 use Rattle.raw_group0124.proofs.raw_group.decode.Goals as goal
 
 pub loop-i-init : goal.loop-i-init

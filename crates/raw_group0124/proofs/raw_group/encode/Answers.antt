@@ -1,8 +1,8 @@
 -- `encode` meets its contract: by the laws of its loop.
-use Rattle.std.proofs.Common.{◌≡◌, ℕ, ◌-◌, refl, w32, rules}
+use Rattle.std.proofs.Common.{refl, w32, rules}
 use Rattle.packed.specs.Format.{t0124}
 use Rattle.packed.proofs.Bytes.{below_fits}
-use Rattle.packed.proofs.Loops.{Encoding, encoding_start, encoding_next, encoding_done}
+use Rattle.packed.proofs.Loops.{encoding_start, encoding_next, encoding_done}
 use Rattle.raw_group0124.proofs.raw_group.encode.Goals as goal
 
 pub loop-i-init : goal.loop-i-init

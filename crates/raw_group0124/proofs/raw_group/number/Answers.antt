@@ -1,5 +1,5 @@
 -- `number` meets its contract: the mask of a width keeps its bytes alone.
-use Rattle.std.proofs.Common.{ℕ, List, drop, rules}
+use Rattle.std.proofs.Common.{ℕ, List, drop}
 use Rattle.packed.proofs.Bytes.{masked, below-drop}
 use Rattle.raw_group0124.proofs.raw_group.number.Goals as goal
 

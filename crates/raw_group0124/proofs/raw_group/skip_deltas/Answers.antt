@@ -1,5 +1,5 @@
 -- `skip_deltas` meets its contract: the sum of what `decode` gives.
-use Rattle.std.proofs.Common.{ap, ◌∙◌, rules}
+use Rattle.std.proofs.Common.{ap, ◌∙◌}
 use Rattle.packed.specs.Format.{m32, wrapping_sum}
 use Rattle.raw_group0124.proofs.raw_group.skip_deltas.Goals as goal
 

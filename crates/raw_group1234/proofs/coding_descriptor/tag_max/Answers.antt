@@ -1,5 +1,4 @@
 -- `tag_max` meets its contract: no width is above 4.
-use Rattle.std.proofs.Common.{rules}
 use Rattle.packed.specs.Format.{t1234}
 use Rattle.packed.proofs.Loops.{at_most}
 use Rattle.raw_group1234.proofs.coding_descriptor.tag_max.Goals as goal

@@ -1,5 +1,4 @@
 -- `tag_max` meets its contract: no width is above 8.
-use Rattle.std.proofs.Common.{rules}
 use Rattle.packed.specs.Format.{t1248}
 use Rattle.packed.proofs.Loops.{at_most}
 use Rattle.raw_group1248.proofs.coding_descriptor.tag_max.Goals as goal

@@ -1,6 +1,6 @@
-use Rattle.std.proofs.Common.{◌≡◌, ℕ, ◌-◌, ◌%◌, arith, rules}
+use Rattle.std.proofs.Common.{◌≡◌}
 use Rattle.packed.specs.Format.{t1248}
-use Rattle.packed.proofs.Loops.{lent-width, lent_mask, Decoding, decoding_start, decoding_next, decoding_done}
+use Rattle.packed.proofs.Loops.{Decoding}
 use Rattle.tag_utils.specs.Tables.{masks}
 use Rattle.raw_group1248.proofs.raw_group.decode.Given as goal
 

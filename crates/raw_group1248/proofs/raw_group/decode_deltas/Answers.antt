@@ -1,5 +1,5 @@
 -- `decode_deltas` meets its contract: the values that what `decode` gives makes.
-use Rattle.std.proofs.Common.{get_or, ap, ◌∙◌, rules}
+use Rattle.std.proofs.Common.{get_or, ap, ◌∙◌}
 use Rattle.packed.specs.Format.{m64, walked}
 use Rattle.raw_group1248.proofs.raw_group.decode_deltas.Goals as goal
 

@@ -1,7 +1,5 @@
-use Rattle.std.proofs.Common.{◌≡◌, ℕ, ◌-◌, refl, w64, rules}
 use Rattle.packed.specs.Format.{t1248}
-use Rattle.packed.proofs.Bytes.{below_fits}
-use Rattle.packed.proofs.Loops.{Encoding, encoding_start, encoding_next, encoding_done}
+use Rattle.packed.proofs.Loops.{Encoding}
 use Rattle.raw_group1248.proofs.raw_group.encode.Given as goal
 
 abbrev pub invariant-loop-i : goal.invariant-loop-i

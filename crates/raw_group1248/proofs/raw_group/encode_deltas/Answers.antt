@@ -1,5 +1,4 @@
 -- `encode_deltas` meets its contract: what `encode` does with the steps.
-use Rattle.std.proofs.Common.{rules}
 use Rattle.raw_group1248.proofs.raw_group.encode_deltas.Goals as goal
 
 pub returns : goal.returns

@@ -1,6 +1,5 @@
 -- `store` meets its contract: by the laws of its loop.
-use Rattle.std.proofs.Common.{ℕ, ◌-◌, rules}
-use Rattle.packed.proofs.Loops.{Storing, storing_start, storing_next, storing_done}
+use Rattle.packed.proofs.Loops.{storing_start, storing_next, storing_done}
 use Rattle.raw_group1248.proofs.raw_group.store.Goals as goal
 
 pub loop-i-init : goal.loop-i-init

@@ -1,5 +1,4 @@
-use Rattle.std.proofs.Common.{ℕ, ◌-◌, rules}
-use Rattle.packed.proofs.Loops.{Storing, storing_start, storing_next, storing_done}
+use Rattle.packed.proofs.Loops.{Storing}
 use Rattle.raw_group1248.proofs.raw_group.store.Given as goal
 
 abbrev pub invariant-loop-i : goal.invariant-loop-i

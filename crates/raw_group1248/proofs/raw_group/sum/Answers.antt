@@ -1,7 +1,7 @@
 -- `sum` meets its contract: by the laws of its loop.
-use Rattle.std.proofs.Common.{ℕ, ◌-◌, lit<, rules}
+use Rattle.std.proofs.Common.{lit<, rules}
 use Rattle.packed.specs.Format.{m64}
-use Rattle.packed.proofs.Loops.{Summing, summing_start, summing_next, summing_done}
+use Rattle.packed.proofs.Loops.{summing_start, summing_next, summing_done}
 use Rattle.raw_group1248.proofs.raw_group.sum.Goals as goal
 
 pub loop-i-init : goal.loop-i-init

@@ -1,6 +1,5 @@
-use Rattle.std.proofs.Common.{ℕ, ◌-◌, lit<, rules}
 use Rattle.packed.specs.Format.{m64}
-use Rattle.packed.proofs.Loops.{Summing, summing_start, summing_next, summing_done}
+use Rattle.packed.proofs.Loops.{Summing}
 use Rattle.raw_group1248.proofs.raw_group.sum.Given as goal
 
 abbrev pub invariant-loop-i : goal.invariant-loop-i

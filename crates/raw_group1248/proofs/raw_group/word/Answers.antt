@@ -1,5 +1,5 @@
 -- `word` meets its contract: eight bytes, low byte first.
-use Rattle.std.proofs.Common.{ℕ, ◌+◌, List, arith, rules}
+use Rattle.std.proofs.Common.{ℕ, List, arith}
 use Rattle.packed.proofs.Bytes.{le_value_head, le_value_next}
 use Rattle.raw_group1248.proofs.raw_group.word.Goals as goal
 
