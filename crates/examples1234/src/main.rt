@@ -72,7 +72,7 @@ fn holds(case: &[u8]) -> bool {
 }
 
 // Runs every case, and prints for each the line before it.
-fn run(file: &[u8]) {
+fn run(rt: &impl Print, file: &[u8]) {
     let mut rest = file;
     let mut before = file;
     let mut found = 0u32;
@@ -82,17 +82,17 @@ fn run(file: &[u8]) {
         let line = &rest[0..end];
         if cases::is_case(line) {
             found = wrapping_add_u32(found, 1);
-            wrong = wrapping_add_u32(wrong, cases::say(before, holds(line)));
+            wrong = wrapping_add_u32(wrong, cases::say(rt, before, holds(line)));
         }
         before = line;
         let next = cases::past(rest, b'\n');
         rest = &rest[next..];
     }
-    cases::say_total(wrong, found);
+    cases::say_total(rt, wrong, found);
 }
 
-fn main() {
+fn main(rt: HostRuntime) {
     let mut buf = [0u8; 16384];
-    let n = cases::read(&mut buf);
-    run(&buf[..n]);
+    let n = cases::read(&rt, &mut buf);
+    run(&rt, &buf[..n]);
 }
