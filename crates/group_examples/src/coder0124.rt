@@ -59,9 +59,10 @@ fn skip_deltas(tag: u8, data: &[u8], behind: u8) -> Skip {
     }
 }
 
-fn reads(tag: u8, data: &[u8], group: [u32; 4]) {
-    lines::text(b"0124:");
+fn reads(rt: &impl Print, tag: u8, data: &[u8], group: [u32; 4]) {
+    lines::text(rt, b"0124:");
     lines::show_read(
+        rt,
         tag,
         data,
         lines::wide(group),
@@ -70,49 +71,69 @@ fn reads(tag: u8, data: &[u8], group: [u32; 4]) {
     );
 }
 
-fn both(group: [u32; 4], tag: u8, data: &[u8]) {
-    lines::text(b"0124:");
-    lines::show_stored(lines::wide(group), tag, data, encode(group));
-    reads(tag, data, group);
+fn both(rt: &impl Print, group: [u32; 4], tag: u8, data: &[u8]) {
+    lines::text(rt, b"0124:");
+    lines::show_stored(rt, lines::wide(group), tag, data, encode(group));
+    reads(rt, tag, data, group);
 }
 
-fn deltas(base: u32, group: [u32; 4], tag: u8, data: &[u8], sum: u32) {
-    lines::text(b"0124 deltas");
-    lines::start(base as u64);
-    lines::show_stored(lines::wide(group), tag, data, encode_deltas(base, group));
-    lines::text(b"0124 deltas");
-    lines::start(base as u64);
+fn deltas(rt: &impl Print, base: u32, group: [u32; 4], tag: u8, data: &[u8], sum: u32) {
+    lines::text(rt, b"0124 deltas");
+    lines::start(rt, base as u64);
+    lines::show_stored(
+        rt,
+        lines::wide(group),
+        tag,
+        data,
+        encode_deltas(base, group),
+    );
+    lines::text(rt, b"0124 deltas");
+    lines::start(rt, base as u64);
     let zeros = decode_deltas(base, tag, data, 0);
     let ones = decode_deltas(base, tag, data, 255);
-    lines::show_read(tag, data, lines::wide(group), zeros, ones);
-    lines::text(b"0124:");
-    lines::show_skip(tag, data, sum as u64, skip_deltas(tag, data, 255));
+    lines::show_read(rt, tag, data, lines::wide(group), zeros, ones);
+    lines::text(rt, b"0124:");
+    lines::show_skip(rt, tag, data, sum as u64, skip_deltas(tag, data, 255));
 }
 
-fn length(tag: u8, len: usize) {
+fn length(rt: &impl Print, tag: u8, len: usize) {
     let lens = tag_length_table();
-    lines::text(b"0124:");
-    lines::show_length(tag, len, data_len(tag, &lens));
+    lines::text(rt, b"0124:");
+    lines::show_length(rt, tag, len, data_len(tag, &lens));
 }
 
-pub fn run() {
-    both([0, 255, 256, 65536], 0xE4, b"\xFF\x00\x01\x00\x00\x01\x00");
-    both([0, 0, 0, 0], 0x00, b"");
-    both([0, 1, 255, 256], 0x94, b"\x01\xFF\x00\x01");
+pub fn run(rt: &impl Print) {
     both(
+        rt,
+        [0, 255, 256, 65536],
+        0xE4,
+        b"\xFF\x00\x01\x00\x00\x01\x00",
+    );
+    both(rt, [0, 0, 0, 0], 0x00, b"");
+    both(rt, [0, 1, 255, 256], 0x94, b"\x01\xFF\x00\x01");
+    both(
+        rt,
         [65535, 65536, 16777215, 16777216],
         0xFE,
         b"\xFF\xFF\x00\x00\x01\x00\xFF\xFF\xFF\x00\x00\x00\x00\x01",
     );
     both(
+        rt,
         [4294967295, 4294967295, 4294967295, 4294967295],
         0xFF,
         b"\xFF\xFF\xFF\xFF\xFF\xFF\xFF\xFF\xFF\xFF\xFF\xFF\xFF\xFF\xFF\xFF",
     );
-    reads(0x55, b"\x00\x00\x00\x00", [0, 0, 0, 0]);
-    deltas(1798, [1799, 1802, 1803, 1804], 0x55, b"\x01\x03\x01\x01", 6);
-    deltas(5, [4, 4, 4, 4], 0x03, b"\xFF\xFF\xFF\xFF", 4294967295);
-    length(0xE4, 7);
-    length(0xFF, 16);
-    length(0x00, 0);
+    reads(rt, 0x55, b"\x00\x00\x00\x00", [0, 0, 0, 0]);
+    deltas(
+        rt,
+        1798,
+        [1799, 1802, 1803, 1804],
+        0x55,
+        b"\x01\x03\x01\x01",
+        6,
+    );
+    deltas(rt, 5, [4, 4, 4, 4], 0x03, b"\xFF\xFF\xFF\xFF", 4294967295);
+    length(rt, 0xE4, 7);
+    length(rt, 0xFF, 16);
+    length(rt, 0x00, 0);
 }

@@ -59,9 +59,10 @@ fn skip_deltas(tag: u8, data: &[u8], behind: u8) -> Skip {
     }
 }
 
-fn reads(tag: u8, data: &[u8], group: [u32; 4]) {
-    lines::text(b"1234:");
+fn reads(rt: &impl Print, tag: u8, data: &[u8], group: [u32; 4]) {
+    lines::text(rt, b"1234:");
     lines::show_read(
+        rt,
         tag,
         data,
         lines::wide(group),
@@ -70,63 +71,86 @@ fn reads(tag: u8, data: &[u8], group: [u32; 4]) {
     );
 }
 
-fn both(group: [u32; 4], tag: u8, data: &[u8]) {
-    lines::text(b"1234:");
-    lines::show_stored(lines::wide(group), tag, data, encode(group));
-    reads(tag, data, group);
+fn both(rt: &impl Print, group: [u32; 4], tag: u8, data: &[u8]) {
+    lines::text(rt, b"1234:");
+    lines::show_stored(rt, lines::wide(group), tag, data, encode(group));
+    reads(rt, tag, data, group);
 }
 
-fn deltas(base: u32, group: [u32; 4], tag: u8, data: &[u8], sum: u32) {
-    lines::text(b"1234 deltas");
-    lines::start(base as u64);
-    lines::show_stored(lines::wide(group), tag, data, encode_deltas(base, group));
-    lines::text(b"1234 deltas");
-    lines::start(base as u64);
+fn deltas(rt: &impl Print, base: u32, group: [u32; 4], tag: u8, data: &[u8], sum: u32) {
+    lines::text(rt, b"1234 deltas");
+    lines::start(rt, base as u64);
+    lines::show_stored(
+        rt,
+        lines::wide(group),
+        tag,
+        data,
+        encode_deltas(base, group),
+    );
+    lines::text(rt, b"1234 deltas");
+    lines::start(rt, base as u64);
     let zeros = decode_deltas(base, tag, data, 0);
     let ones = decode_deltas(base, tag, data, 255);
-    lines::show_read(tag, data, lines::wide(group), zeros, ones);
-    lines::text(b"1234:");
-    lines::show_skip(tag, data, sum as u64, skip_deltas(tag, data, 255));
+    lines::show_read(rt, tag, data, lines::wide(group), zeros, ones);
+    lines::text(rt, b"1234:");
+    lines::show_skip(rt, tag, data, sum as u64, skip_deltas(tag, data, 255));
 }
 
-fn length(tag: u8, len: usize) {
+fn length(rt: &impl Print, tag: u8, len: usize) {
     let lens = tag_length_table();
-    lines::text(b"1234:");
-    lines::show_length(tag, len, data_len(tag, &lens));
+    lines::text(rt, b"1234:");
+    lines::show_length(rt, tag, len, data_len(tag, &lens));
 }
 
-pub fn run() {
-    both([0, 255, 256, 65536], 0x90, b"\x00\xFF\x00\x01\x00\x00\x01");
-    both([0, 0, 0, 0], 0x00, b"\x00\x00\x00\x00");
+pub fn run(rt: &impl Print) {
     both(
+        rt,
+        [0, 255, 256, 65536],
+        0x90,
+        b"\x00\xFF\x00\x01\x00\x00\x01",
+    );
+    both(rt, [0, 0, 0, 0], 0x00, b"\x00\x00\x00\x00");
+    both(
+        rt,
         [255, 256, 65535, 65536],
         0x94,
         b"\xFF\x00\x01\xFF\xFF\x00\x00\x01",
     );
     both(
+        rt,
         [16777215, 16777216, 4294967295, 1],
         0x3E,
         b"\xFF\xFF\xFF\x00\x00\x00\x01\xFF\xFF\xFF\xFF\x01",
     );
     both(
+        rt,
         [4294967295, 4294967295, 4294967295, 4294967295],
         0xFF,
         b"\xFF\xFF\xFF\xFF\xFF\xFF\xFF\xFF\xFF\xFF\xFF\xFF\xFF\xFF\xFF\xFF",
     );
     reads(
+        rt,
         0xFF,
         b"\x05\x00\x00\x00\x05\x00\x00\x00\x05\x00\x00\x00\x05\x00\x00\x00",
         [5, 5, 5, 5],
     );
-    deltas(1798, [1799, 1802, 1803, 1804], 0x00, b"\x01\x03\x01\x01", 6);
     deltas(
+        rt,
+        1798,
+        [1799, 1802, 1803, 1804],
+        0x00,
+        b"\x01\x03\x01\x01",
+        6,
+    );
+    deltas(
+        rt,
         5,
         [4, 4, 4, 4],
         0x03,
         b"\xFF\xFF\xFF\xFF\x00\x00\x00",
         4294967295,
     );
-    length(0xE4, 10);
-    length(0xFF, 16);
-    length(0x00, 4);
+    length(rt, 0xE4, 10);
+    length(rt, 0xFF, 16);
+    length(rt, 0x00, 4);
 }

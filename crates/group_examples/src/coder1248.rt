@@ -59,9 +59,10 @@ fn skip_deltas(tag: u8, data: &[u8], behind: u8) -> Skip {
     }
 }
 
-fn reads(tag: u8, data: &[u8], group: [u64; 4]) {
-    lines::text(b"1248:");
+fn reads(rt: &impl Print, tag: u8, data: &[u8], group: [u64; 4]) {
+    lines::text(rt, b"1248:");
     lines::show_read(
+        rt,
         tag,
         data,
         group,
@@ -70,49 +71,53 @@ fn reads(tag: u8, data: &[u8], group: [u64; 4]) {
     );
 }
 
-fn both(group: [u64; 4], tag: u8, data: &[u8]) {
-    lines::text(b"1248:");
-    lines::show_stored(group, tag, data, encode(group));
-    reads(tag, data, group);
+fn both(rt: &impl Print, group: [u64; 4], tag: u8, data: &[u8]) {
+    lines::text(rt, b"1248:");
+    lines::show_stored(rt, group, tag, data, encode(group));
+    reads(rt, tag, data, group);
 }
 
-fn deltas(base: u64, group: [u64; 4], tag: u8, data: &[u8], sum: u64) {
-    lines::text(b"1248 deltas");
-    lines::start(base);
-    lines::show_stored(group, tag, data, encode_deltas(base, group));
-    lines::text(b"1248 deltas");
-    lines::start(base);
+fn deltas(rt: &impl Print, base: u64, group: [u64; 4], tag: u8, data: &[u8], sum: u64) {
+    lines::text(rt, b"1248 deltas");
+    lines::start(rt, base);
+    lines::show_stored(rt, group, tag, data, encode_deltas(base, group));
+    lines::text(rt, b"1248 deltas");
+    lines::start(rt, base);
     let zeros = decode_deltas(base, tag, data, 0);
     let ones = decode_deltas(base, tag, data, 255);
-    lines::show_read(tag, data, group, zeros, ones);
-    lines::text(b"1248:");
-    lines::show_skip(tag, data, sum, skip_deltas(tag, data, 255));
+    lines::show_read(rt, tag, data, group, zeros, ones);
+    lines::text(rt, b"1248:");
+    lines::show_skip(rt, tag, data, sum, skip_deltas(tag, data, 255));
 }
 
-fn length(tag: u8, len: usize) {
+fn length(rt: &impl Print, tag: u8, len: usize) {
     let lens = tag_length_table();
-    lines::text(b"1248:");
-    lines::show_length(tag, len, data_len(tag, &lens));
+    lines::text(rt, b"1248:");
+    lines::show_length(rt, tag, len, data_len(tag, &lens));
 }
 
-pub fn run() {
+pub fn run(rt: &impl Print) {
     both(
+        rt,
         [0, 256, 65536, 4294967296],
         0xE4,
         b"\x00\x00\x01\x00\x00\x01\x00\x00\x00\x00\x00\x01\x00\x00\x00",
     );
-    both([0, 0, 0, 0], 0x00, b"\x00\x00\x00\x00");
+    both(rt, [0, 0, 0, 0], 0x00, b"\x00\x00\x00\x00");
     both(
+        rt,
         [255, 256, 65535, 65536],
         0x94,
         b"\xFF\x00\x01\xFF\xFF\x00\x00\x01\x00",
     );
     both(
+        rt,
         [4294967295, 4294967296, 18446744073709551615, 1],
         0x3E,
         b"\xFF\xFF\xFF\xFF\x00\x00\x00\x00\x01\x00\x00\x00\xFF\xFF\xFF\xFF\xFF\xFF\xFF\xFF\x01",
     );
     both(
+        rt,
         [
             18446744073709551615,
             18446744073709551615,
@@ -123,19 +128,28 @@ pub fn run() {
         b"\xFF\xFF\xFF\xFF\xFF\xFF\xFF\xFF\xFF\xFF\xFF\xFF\xFF\xFF\xFF\xFF\xFF\xFF\xFF\xFF\xFF\xFF\xFF\xFF\xFF\xFF\xFF\xFF\xFF\xFF\xFF\xFF",
     );
     reads(
+        rt,
         0xFF,
         b"\x05\x00\x00\x00\x00\x00\x00\x00\x05\x00\x00\x00\x00\x00\x00\x00\x05\x00\x00\x00\x00\x00\x00\x00\x05\x00\x00\x00\x00\x00\x00\x00",
         [5, 5, 5, 5],
     );
-    deltas(1798, [1799, 1802, 1803, 1804], 0x00, b"\x01\x03\x01\x01", 6);
     deltas(
+        rt,
+        1798,
+        [1799, 1802, 1803, 1804],
+        0x00,
+        b"\x01\x03\x01\x01",
+        6,
+    );
+    deltas(
+        rt,
         5,
         [4, 4, 4, 4],
         0x03,
         b"\xFF\xFF\xFF\xFF\xFF\xFF\xFF\xFF\x00\x00\x00",
         18446744073709551615,
     );
-    length(0xE4, 15);
-    length(0xFF, 32);
-    length(0x00, 4);
+    length(rt, 0xE4, 15);
+    length(rt, 0xFF, 32);
+    length(rt, 0x00, 4);
 }

@@ -68,8 +68,9 @@ fn same(a: [u64; 4], b: [u64; 4]) -> bool {
     a[0] == b[0] && a[1] == b[1] && a[2] == b[2] && a[3] == b[3]
 }
 
-pub fn text(s: &[u8]) {
-    io::write_all(1, s);
+// What cannot be written is left out.
+pub fn text(rt: &impl Print, s: &[u8]) {
+    let _ = rt.write_all(s);
 }
 
 fn digit(d: u8) -> u8
@@ -78,63 +79,63 @@ fn digit(d: u8) -> u8
     if d < 10 { 48 + d } else { 55 + d }
 }
 
-fn byte(b: u8) {
+fn byte(rt: &impl Print, b: u8) {
     let digits = [digit(b / 16), digit(b % 16)];
-    text(&digits);
+    text(rt, &digits);
 }
 
-fn space() {
-    text(b" ");
+fn space(rt: &impl Print) {
+    text(rt, b" ");
 }
 
-fn bytes(s: &[u8]) {
+fn bytes(rt: &impl Print, s: &[u8]) {
     for i in 0..s.len() {
-        space();
-        byte(s[i]);
+        space(rt);
+        byte(rt, s[i]);
     }
 }
 
-fn numbers(group: [u64; 4]) {
+fn numbers(rt: &impl Print, group: [u64; 4]) {
     for i in 0..4 {
-        space();
-        io::print_decimal(1, group[i]);
+        space(rt);
+        let _ = rt.print(group[i]);
     }
 }
 
-pub fn start(n: u64) {
-    text(b" from ");
-    io::print_decimal(1, n);
-    text(b":");
+pub fn start(rt: &impl Print, n: u64) {
+    text(rt, b" from ");
+    let _ = rt.print(n);
+    text(rt, b":");
 }
 
-fn count(n: usize) {
-    text(b", ");
-    io::print_decimal(1, n as u64);
-    text(b" bytes");
+fn count(rt: &impl Print, n: usize) {
+    text(rt, b", ");
+    let _ = rt.print(n);
+    text(rt, b" bytes");
 }
 
 // A tag and its data.
-fn packed(tag: u8, data: &[u8]) {
-    text(b" tag ");
-    byte(tag);
-    text(b", data");
-    bytes(data);
+fn packed(rt: &impl Print, tag: u8, data: &[u8]) {
+    text(rt, b" tag ");
+    byte(rt, tag);
+    text(rt, b", data");
+    bytes(rt, data);
 }
 
-fn arrow() {
-    text(b" ->");
+fn arrow(rt: &impl Print) {
+    text(rt, b" ->");
 }
 
-fn ok() {
-    text(b": ok\n");
+fn ok(rt: &impl Print) {
+    text(rt, b": ok\n");
 }
 
-fn wrong() {
-    text(b": WRONG, came");
+fn wrong(rt: &impl Print) {
+    text(rt, b": WRONG, came");
 }
 
-fn end() {
-    text(b"\n");
+fn end(rt: &impl Print) {
+    text(rt, b"\n");
 }
 
 fn is_stored(tag: u8, data: &[u8], came: Stored) -> bool {
@@ -143,19 +144,19 @@ fn is_stored(tag: u8, data: &[u8], came: Stored) -> bool {
 }
 
 // A group and what it must be stored as.
-pub fn show_stored(group: [u64; 4], tag: u8, data: &[u8], came: Stored) {
-    numbers(group);
-    arrow();
-    packed(tag, data);
-    count(data.len());
+pub fn show_stored(rt: &impl Print, group: [u64; 4], tag: u8, data: &[u8], came: Stored) {
+    numbers(rt, group);
+    arrow(rt);
+    packed(rt, tag, data);
+    count(rt, data.len());
     if is_stored(tag, data, came) {
-        ok();
+        ok(rt);
     } else {
-        wrong();
+        wrong(rt);
         let output = came.output;
-        packed(came.tag, &output);
-        count(came.written);
-        end();
+        packed(rt, came.tag, &output);
+        count(rt, came.written);
+        end(rt);
     }
 }
 
@@ -164,59 +165,59 @@ fn is_read(len: usize, group: [u64; 4], came: Got) -> bool {
     came.read == len && same(numbers, group)
 }
 
-fn show_got(came: Got) {
+fn show_got(rt: &impl Print, came: Got) {
     let group = came.group;
-    numbers(group);
-    count(came.read);
+    numbers(rt, group);
+    count(rt, came.read);
 }
 
 // A tag with its data and the group that must be read, with 00 and with FF bytes behind the data.
-pub fn show_read(tag: u8, data: &[u8], group: [u64; 4], zeros: Got, ones: Got) {
-    packed(tag, data);
-    arrow();
-    numbers(group);
-    count(data.len());
+pub fn show_read(rt: &impl Print, tag: u8, data: &[u8], group: [u64; 4], zeros: Got, ones: Got) {
+    packed(rt, tag, data);
+    arrow(rt);
+    numbers(rt, group);
+    count(rt, data.len());
     if is_read(data.len(), group, zeros) && is_read(data.len(), group, ones) {
-        ok();
+        ok(rt);
     } else {
-        wrong();
-        show_got(zeros);
-        show_got(ones);
-        end();
+        wrong(rt);
+        show_got(rt, zeros);
+        show_got(rt, ones);
+        end(rt);
     }
 }
 
-fn show_sum(sum: u64, read: usize) {
-    text(b" sum ");
-    io::print_decimal(1, sum);
-    count(read);
+fn show_sum(rt: &impl Print, sum: u64, read: usize) {
+    text(rt, b" sum ");
+    let _ = rt.print(sum);
+    count(rt, read);
 }
 
 // A tag with its data and the sum that a skip must give.
-pub fn show_skip(tag: u8, data: &[u8], sum: u64, came: Skip) {
-    text(b" skip");
-    packed(tag, data);
-    arrow();
-    show_sum(sum, data.len());
+pub fn show_skip(rt: &impl Print, tag: u8, data: &[u8], sum: u64, came: Skip) {
+    text(rt, b" skip");
+    packed(rt, tag, data);
+    arrow(rt);
+    show_sum(rt, sum, data.len());
     if came.read == data.len() && came.sum == sum {
-        ok();
+        ok(rt);
     } else {
-        wrong();
-        show_sum(came.sum, came.read);
-        end();
+        wrong(rt);
+        show_sum(rt, came.sum, came.read);
+        end(rt);
     }
 }
 
 // A tag and the length that its data must have.
-pub fn show_length(tag: u8, len: usize, came: usize) {
-    text(b" length of tag ");
-    byte(tag);
-    count(len);
+pub fn show_length(rt: &impl Print, tag: u8, len: usize, came: usize) {
+    text(rt, b" length of tag ");
+    byte(rt, tag);
+    count(rt, len);
     if came == len {
-        ok();
+        ok(rt);
     } else {
-        wrong();
-        count(came);
-        end();
+        wrong(rt);
+        count(rt, came);
+        end(rt);
     }
 }

@@ -7,8 +7,8 @@ mod coder1234;
 mod coder1248;
 mod lines;
 
-fn main() {
-    coder1234::run();
-    coder0124::run();
-    coder1248::run();
+fn main(rt: HostRuntime) {
+    coder1234::run(&rt);
+    coder0124::run(&rt);
+    coder1248::run(&rt);
 }

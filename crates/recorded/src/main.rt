@@ -7,10 +7,15 @@ mod layout;
 mod replay32;
 mod replay64;
 
-ghost use Rattle.std.specs.Prelude.{◌<◌, ◌≤◌};
+ghost use Rattle.std.specs.Prelude.{◌≡◌, ◌<◌, ◌≤◌, length, take};
 
-fn text(s: &[u8]) {
-    io::write_all(1, s);
+use std::fs;
+use std::io::Read;
+use std::rt::Files;
+
+// What cannot be written is left out.
+fn text(rt: &impl Print, s: &[u8]) {
+    let _ = rt.write_all(s);
 }
 
 // How many records there are, and how many of them differ.
@@ -20,25 +25,28 @@ struct Tally {
     differ: u64,
 }
 
-fn show(t: Tally) {
-    io::print_decimal(1, t.records);
-    text(b" records, ");
-    io::print_decimal(1, t.differ);
-    text(b" differ");
+fn show(rt: &impl Print, t: Tally) {
+    let _ = rt.print(t.records);
+    text(rt, b" records, ");
+    let _ = rt.print(t.differ);
+    text(rt, b" differ");
 }
 
-fn show_line(coder: usize, call: usize, t: Tally)
+fn show_line(rt: &impl Print, coder: usize, call: usize, t: Tally)
     requires coder_bound { coder < 3 }
     requires call_bound { call < 6 }
 {
-    text(layout::part(b"1234 0124 1248 ", 5 * coder, 5));
-    text(layout::part(
-        b"encode:        encode_deltas: decode:        decode_deltas: data_len:      skip_deltas:   ",
-        15 * call,
-        15,
-    ));
-    show(t);
-    text(b"\n");
+    text(rt, layout::part(b"1234 0124 1248 ", 5 * coder, 5));
+    text(
+        rt,
+        layout::part(
+            b"encode:        encode_deltas: decode:        decode_deltas: data_len:      skip_deltas:   ",
+            15 * call,
+            15,
+        ),
+    );
+    show(rt, t);
+    text(rt, b"\n");
 }
 
 // Whether the call answers as the crate's did. A kind is the call, and 256 more for coder 0124, 512 more for 1248.
@@ -69,20 +77,20 @@ fn agrees(kind: usize, r: &[u8]) -> bool {
 }
 
 // 0, or 1 and a line where record k differs.
-fn differs(k: u64, kind: usize, r: &[u8]) -> u64
+fn differs(rt: &impl Print, k: u64, kind: usize, r: &[u8]) -> u64
     ensures { result ≤ 1 }
 {
     if agrees(kind, r) {
         return 0;
     }
-    text(b"record ");
-    io::print_decimal(1, k);
-    text(b" DIFFERS\n");
+    text(rt, b"record ");
+    let _ = rt.print(k);
+    text(rt, b" DIFFERS\n");
     1
 }
 
 // Replays the records of a kind, which stands in their first two bytes.
-fn replay(records: &[u8], count: u32, kind: usize) -> Tally
+fn replay(rt: &impl Print, records: &[u8], count: u32, kind: usize) -> Tally
     ensures { (result.records ≤ 4294967295) × (result.differ ≤ 4294967295) }
 {
     let mut found = 0;
@@ -96,7 +104,7 @@ fn replay(records: &[u8], count: u32, kind: usize) -> Tally
         let r = &rest[0..n];
         if layout::le16(r, 0) == kind {
             found += 1;
-            differ += differs(k, kind, r);
+            differ += differs(rt, k, kind, r);
         }
         rest = &rest[n..];
     }
@@ -107,12 +115,12 @@ fn replay(records: &[u8], count: u32, kind: usize) -> Tally
 }
 
 // Replays the six calls of the three coders, and prints a line for each.
-fn replay_all(records: &[u8], count: u32) -> Tally {
+fn replay_all(rt: &impl Print, records: &[u8], count: u32) -> Tally {
     let mut found = 0;
     let mut differ = 0;
     for i in 0..18 {
-        let t = replay(records, count, i / 6 * 256 + i % 6);
-        show_line(i / 6, i % 6, t);
+        let t = replay(rt, records, count, i / 6 * 256 + i % 6);
+        show_line(rt, i / 6, i % 6, t);
         found += t.records;
         differ += t.differ;
     }
@@ -127,33 +135,58 @@ fn saturating_sub(a: usize, b: usize) -> usize {
 }
 
 // The check number is right where the length and the count of records are right too.
-fn report(s: &[u8]) {
+fn report(rt: &impl Print, s: &[u8]) {
     let n = saturating_sub(s.len(), 4);
     let count = layout::le32(s, 512);
-    let all = replay_all(layout::part(s, 520, saturating_sub(n, 520)), count);
+    let all = replay_all(rt, layout::part(s, 520, saturating_sub(n, 520)), count);
     let check = layout::check_number(layout::part(s, 0, n));
-    show(all);
-    text(b", check number ");
-    io::print_decimal(1, check);
+    show(rt, all);
+    text(rt, b", check number ");
+    let _ = rt.print(check);
     let right = (check == layout::le32(layout::part(s, n, 4), 0) as u64)
         & (s.len() == layout::le32(s, 516) as usize)
         & (all.records == count as u64)
         & (520 < n);
     if right {
-        text(b" right\n");
+        text(rt, b" right\n");
     } else {
-        text(b" WRONG\n");
+        text(rt, b" WRONG\n");
     }
 }
 
-fn read_and_report(buf: &mut [u8]) {
-    let fd = os::open_read(b"answers.bin");
-    let n = io::read_full(fd, buf);
-    libc::close(fd);
-    report(&buf[..n]);
+// Reads until buf is full, the file ends or a read fails, and returns how many bytes it put at the start of buf.
+fn fill<F: Read>(file: &mut F, buf: &mut [u8]) -> usize
+    ensures bound { result ≤ length buf.new }
+    ensures front { result ≡ length (take result buf.new) }
+{
+    let mut done = 0;
+    while done < buf.len() {
+        let n = file.read(&mut buf[done..]).unwrap_or(0);
+        if n == 0 {
+            break;
+        }
+        done += n;
+    }
+    done
 }
 
-fn main() {
+// A file that cannot be opened is read as nothing.
+fn read(rt: &impl Files, buf: &mut [u8]) -> usize
+    ensures bound { result ≤ length buf.new }
+    ensures front { result ≡ length (take result buf.new) }
+{
+    match fs::open(rt, "answers.bin") {
+        Ok(mut file) => fill(&mut file, buf),
+        Err(_) => 0,
+    }
+}
+
+fn read_and_report(rt: &(impl Files + Print), buf: &mut [u8]) {
+    let n = read(rt, buf);
+    report(rt, &buf[..n]);
+}
+
+fn main(rt: HostRuntime) {
     let mut buf = [0u8; 262144];
-    read_and_report(&mut buf);
+    read_and_report(&rt, &mut buf);
 }
