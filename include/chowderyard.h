@@ -1,8 +1,8 @@
 /*
  * chowderyard.h: columns of whole numbers packed in groups of four, by the three coders of streamvbyte64.
  *
- * Link target/staticlib/libchowderyard.a (made by `rt staticlib chowderyard`, for x86-64 Linux). The functions keep no
- * state, allocate nothing and may be called from any number of threads.
+ * Link target/staticlib/libchowderyard.a (made by tools/staticlib, for x86-64 Linux). The functions keep no state,
+ * allocate nothing and may be called from any number of threads.
  *
  * A group is four numbers. Each group has one tag byte, which holds four fields of two bits, number 0 in the lowest; a
  * field picks how many data bytes its number takes:

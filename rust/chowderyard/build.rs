@@ -1,4 +1,4 @@
-//! Finds libchowderyard.a: in the folder that CHOWDERYARD_LIB_DIR names, or where `rt staticlib chowderyard` puts it.
+//! Finds libchowderyard.a: in the folder that CHOWDERYARD_LIB_DIR names, or where `tools/staticlib` puts it.
 
 use std::env;
 use std::path::PathBuf;
@@ -21,7 +21,7 @@ fn main() {
     }
     if !library.is_file() {
         fail(&format!(
-            "{} is not there. Make it with `rt staticlib chowderyard` in the project's root, \
+            "{} is not there. Make it with `tools/staticlib` in the project's root, \
              or set CHOWDERYARD_LIB_DIR to the folder that has libchowderyard.a",
             library.display()
         ));
