@@ -122,8 +122,8 @@ fn the_answers_have_the_same_fields_everywhere() {
     let header = without_comments(&text("include/chowderyard.h"));
     for name in ["Answer", "TightnessAnswer"] {
         let want = fields(&source, name);
-        assert!(source.contains(&format!("#[repr(C)]\npub struct {name} {{")));
         let layout = "#[repr(C)]\n#[derive(Clone, Copy)]\n";
+        assert!(source.contains(&format!("{layout}pub struct {name} {{")));
         assert!(own.contains(&format!("{layout}pub struct {name} {{")));
         assert_eq!(fields(&own, name), want);
         let in_c: Vec<_> = between(&header, &format!("struct {} {{", structure(name)), "}")
