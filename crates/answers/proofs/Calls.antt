@@ -1,4 +1,4 @@
--- From the verdicts to the calls' definitions, over the width table t: what a call promises where a verdict refuses and where all accept.
+-- From the checks to the calls' definitions, over the width table t: what a call promises where a check refuses and where all accept.
 -- Assumes nothing.
 use mathlib.Core.Path.{◌≡◌, refl, ap, ap₂, sym, ◌∙◌, subst}
 use mathlib.Core.List.{List, [], ◌∷◌, ◌++◌, append-nil}
@@ -7,6 +7,7 @@ use native.Mathlib.Nat.{zero-add}
 use native.Mathlib.Omega.{arith}
 use lib.ListN.{length, drop, drop_of_length-le}
 use lib.Seq.{sets, sets-eq, slice, take-length}
+use Rattle.std.specs.Prelude.{Option, Result, Ok, Err, IsErrAnd}
 use Rattle.packed.specs.Format.{total, data_len, stored, tags_of, bytes_of, steps, walked, wrapping_sum}
 use Rattle.packed.specs.Refusals.{Lent, Row, not_fours, too_many_groups, few_tags, little_room, other_tags, missing_data, tail_overrun, lent_to_encode, lent_to_decode, lent_to_read, group_limit, first_of, encoding_rows, decoding_rows, skipping_rows, tightness_rows, length_rows}
 use Rattle.packed.specs.Calls.{accepted, refused, unless_refused, encoded, encoding, encoding_deltas, decoded, decoding_by, skipping, measuring, testing, tightness_of, untested}
@@ -19,11 +20,11 @@ use Rattle.packed.proofs.Ends.{Table}
 use Rattle.packed.proofs.Rows.{passed, first_passed, first_stands, fours, few_groups, enough_tags, enough_room, matching_tags, enough_data, enough_copied}
 use Rattle.answers.specs.declared.Refusal.{Refusal}
 use Rattle.answers.specs.declared.Refusal.TheVariants.{NotFours, TooManyGroups, FewTags, LittleRoom, OtherTags, MissingData, TailOverrun}
-use Rattle.answers.specs.declared.Verdict.{Verdict}
-use Rattle.answers.specs.declared.Verdict.TheVariants.{Accepted, Refused}
-use Rattle.answers.specs.Meaning.{refusal_number, verdict_number, count_rows, data_rows, limit_row, missing_row}
+use Rattle.answers.specs.declared.Skipped.{Skipped}
+use Rattle.answers.specs.declared.Place.{Place}
+use Rattle.answers.specs.Meaning.{refusal_number, counted, skipped, tested, count_rows, data_rows, limit_row, missing_row}
 
--- ---- verdicts and rows
+-- ---- checks and rows
 
 -- a refusal's number is above 0
 positive : (why : Refusal) → refusal_number why ≡ suc (pred (refusal_number why))
@@ -35,26 +36,25 @@ positive OtherTags = refl
 positive MissingData = refl
 positive TailOverrun = refl
 
-module _ (t : List ℕ) (l : Lent) (rs qs : List Row) {v : Verdict} (says : verdict_number v ≡ first_of t l rs) where
-  -- what a verdict refuses the call refuses
-  pub refuses : (why : Refusal) → v ≡ Refused why → first_of t l (rs ++ qs) ≡ refusal_number why
-  refuses why e =
-      first_stands t l rs qs (pred (refusal_number why)) (sym says ∙ ap verdict_number e ∙ positive why) ∙ sym (positive why)
+module _ (t : List ℕ) (l : Lent) (rs qs : List Row) where
+  -- what a check refuses the call refuses
+  pub refuses : (why : Refusal) → refusal_number why ≡ first_of t l rs → first_of t l (rs ++ qs) ≡ refusal_number why
+  refuses why says = first_stands t l rs qs (pred (refusal_number why)) (sym says ∙ positive why) ∙ sym (positive why)
 
-  pub accepts : v ≡ Accepted → first_of t l rs ≡ 0
-  accepts e = sym says ∙ ap verdict_number e
+  -- the same of a check of the rows behind those that did not apply
+  pub refuses_behind : first_of t l rs ≡ 0 → (why : Refusal) → refusal_number why ≡ first_of t l qs → first_of t l (rs ++ qs) ≡ refusal_number why
+  refuses_behind none why says = first_passed t l rs qs none ∙ sym says
 
--- the same of the rows behind those that did not apply
-pub refuses_behind : (t : List ℕ) (l : Lent) (rs qs : List Row) {v : Verdict} → first_of t l rs ≡ 0 → verdict_number v ≡ first_of t l qs
-    → (why : Refusal) → v ≡ Refused why → first_of t l (rs ++ qs) ≡ refusal_number why
-refuses_behind t l rs qs none says why e = first_passed t l rs qs none ∙ sym says ∙ ap verdict_number e
-
-pub accepts_behind : (t : List ℕ) (l : Lent) (rs qs : List Row) {v : Verdict} → first_of t l rs ≡ 0 → verdict_number v ≡ first_of t l qs
-    → v ≡ Accepted → first_of t l (rs ++ qs) ≡ 0
-accepts_behind t l rs qs none says e = first_passed t l rs qs none ∙ sym says ∙ ap verdict_number e
+  pub accepts_behind : first_of t l rs ≡ 0 → 0 ≡ first_of t l qs → first_of t l (rs ++ qs) ≡ 0
+  accepts_behind none says = first_passed t l rs qs none ∙ sym says
 
 unless_refused_lem {ℓ} : {A : Type ℓ} (n : ℕ) (why : Refusal) (a b : A) → n ≡ refusal_number why → unless_refused n a b ≡ b
 unless_refused_lem n why a b e = ap (λ (k : ℕ). unless_refused k a b) (e ∙ positive why)
+
+-- what a call hands on, where a check that it made refused
+pub handed_on : {A B : Type 0} (f : Result A Refusal → B) (r : Result A Refusal) (why : Refusal) → IsErrAnd r (λ e. e ≡ why) → f r ≡ f (Err why)
+handed_on f (Ok _) why is = absurd is
+handed_on f (Err _) why is = ap (λ (e : Refusal). f (Err e)) is
 
 -- ---- decoding
 
@@ -63,11 +63,12 @@ module _ (make : List ℕ → List ℕ) (t tags bytes values : List ℕ) where
   abbrev pub lent : Lent
   lent = lent_to_decode (length values) tags (length bytes)
 
-  pub decoding-refused : (why : Refusal) → first_of t lent decoding_rows ≡ refusal_number why
-      → decoded (refused (refusal_number why)) values ≡ decoding_by make t tags bytes values
+  pub decoding-refused : (r : Result ℕ Refusal) (why : Refusal) → IsErrAnd r (λ e. e ≡ why) → first_of t lent decoding_rows ≡ refusal_number why
+      → decoded (counted r) values ≡ decoding_by make t tags bytes values
   unfolding decoding_by
-  decoding-refused why e =
-      sym (unless_refused_lem _ why _ _ e ∙ ap (λ (n : ℕ). decoded (refused n) values) e)
+  decoding-refused r why is e =
+      handed_on (λ (x : Result ℕ Refusal). decoded (counted x) values) r why is
+      ∙ sym (unless_refused_lem _ why _ _ e ∙ ap (λ (n : ℕ). decoded (refused n) values) e)
 
   pub decoding-accepted : first_of t lent decoding_rows ≡ 0
       → decoded (accepted (data_len t tags) 0) (make (stored t tags bytes)) ≡ decoding_by make t tags bytes values
@@ -116,13 +117,13 @@ module _ (t tags bytes values after : List ℕ) (fours : 4 * length tags ≡ len
   all_read r e = e ∙ zero-add (data_len t (slice 0 (length tags) tags)) ∙ ap (data_len t) (whole tags)
 
   pub decoded_all : {r : ℕ} → Runs t tags bytes values 0 (length tags) 0 r after
-      → decoded (accepted r 0) after ≡ decoding_by (λ (ns : List ℕ). ns) t tags bytes values
+      → decoded (counted (Ok r)) after ≡ decoding_by (λ (ns : List ℕ). ns) t tags bytes values
   decoded_all {r} x =
       ap₂ (λ (n : ℕ) (l : List ℕ). decoded (accepted n 0) l) (all_read r x.read) (x.values ∙ all_stored)
       ∙ decoding-accepted (λ (ns : List ℕ). ns) t tags bytes values none
 
   pub decoded_deltas_all : {m p r last : ℕ} → RunsDeltas t tags bytes values m 0 (length tags) 0 p r last after
-      → decoded (accepted r 0) after ≡ decoding_by (walked m p) t tags bytes values
+      → decoded (counted (Ok r)) after ≡ decoding_by (walked m p) t tags bytes values
   decoded_deltas_all {m} {p} {r} {last} x =
       ap₂ (λ (n : ℕ) (l : List ℕ). decoded (accepted n 0) l) (all_read r x.read) (x.values ∙ all_walked m p)
       ∙ decoding-accepted (walked m p) t tags bytes values none
@@ -133,13 +134,15 @@ module _ (t tags bytes : List ℕ) (m : ℕ) where
   abbrev pub lent_skip : Lent
   lent_skip = lent_to_read tags (length bytes)
 
-  pub skipping-refused : (why : Refusal) → first_of t lent_skip skipping_rows ≡ refusal_number why → refused (refusal_number why) ≡ skipping t m tags bytes
+  pub skipping-refused : {E : Type 0} (value : E → ℕ) (r : Result (Skipped E) Refusal) (why : Refusal) → IsErrAnd r (λ e. e ≡ why)
+      → first_of t lent_skip skipping_rows ≡ refusal_number why → skipped value r ≡ skipping t m tags bytes
   unfolding skipping
-  skipping-refused why e = sym (unless_refused_lem _ why _ _ e ∙ ap refused e)
+  skipping-refused value r why is e = handed_on (skipped value) r why is ∙ sym (unless_refused_lem _ why _ _ e ∙ ap refused e)
 
-  pub skipped_all : {r s : ℕ} → first_of t lent_skip skipping_rows ≡ 0 → RunsSum t tags bytes m 0 (length tags) 0 0 r s → accepted r s ≡ skipping t m tags bytes
+  pub skipped_all : {E : Type 0} (value : E → ℕ) (s : Skipped E) → first_of t lent_skip skipping_rows ≡ 0
+      → RunsSum t tags bytes m 0 (length tags) 0 0 s.read (value s.sum) → skipped value (Ok s) ≡ skipping t m tags bytes
   unfolding skipping wrapping_sum
-  skipped_all {r} {s} e x =
+  skipped_all value s e x =
       ap₂ accepted (x.read ∙ zero-add _ ∙ ap (data_len t) (whole tags))
       (x.sum ∙ ap (λ (n : ℕ). n % m) (zero-add _) ∙ ap (λ (l : List ℕ). total (stored t l bytes) % m) (whole tags))
       ∙ sym (ap (λ (n : ℕ). unless_refused n (accepted (data_len t tags) (wrapping_sum m (stored t tags bytes))) (refused n)) e)
@@ -149,11 +152,12 @@ pub limited : (t : List ℕ) (l : Lent) → first_of t l limit_row ≡ 0 → l.g
 limited t l e = few_groups t l (passed t l too_many_groups [] e).0
 
 module _ (t tags : List ℕ) where
-  pub measuring-refused : (why : Refusal) → first_of t (lent_to_read tags 0) length_rows ≡ refusal_number why → refused (refusal_number why) ≡ measuring t tags
+  pub measuring-refused : (r : Result ℕ Refusal) (why : Refusal) → IsErrAnd r (λ e. e ≡ why)
+      → first_of t (lent_to_read tags 0) length_rows ≡ refusal_number why → counted r ≡ measuring t tags
   unfolding measuring
-  measuring-refused why e = sym (unless_refused_lem _ why _ _ e ∙ ap refused e)
+  measuring-refused r why is e = handed_on counted r why is ∙ sym (unless_refused_lem _ why _ _ e ∙ ap refused e)
 
-  pub measured_all : {r : ℕ} → first_of t (lent_to_read tags 0) length_rows ≡ 0 → Measured t tags 0 (length tags) r → accepted r 0 ≡ measuring t tags
+  pub measured_all : {r : ℕ} → first_of t (lent_to_read tags 0) length_rows ≡ 0 → Measured t tags 0 (length tags) r → counted (Ok r) ≡ measuring t tags
   unfolding measuring
   measured_all {r} e x =
       ap (λ (n : ℕ). accepted n 0) (x.len ∙ ap (data_len t) (whole tags))
@@ -166,10 +170,12 @@ module _ (t values tags bytes : List ℕ) where
   abbrev pub lent_encode : Lent
   lent_encode = lent_to_encode (length values) tags (length bytes)
 
-  pub encoding-refused : (why : Refusal) → first_of t lent_encode encoding_rows ≡ refusal_number why
-      → encoded (refused (refusal_number why)) tags bytes ≡ encoding t values tags bytes
+  pub encoding-refused : (r : Result ℕ Refusal) (why : Refusal) → IsErrAnd r (λ e. e ≡ why) → first_of t lent_encode encoding_rows ≡ refusal_number why
+      → encoded (counted r) tags bytes ≡ encoding t values tags bytes
   unfolding encoding
-  encoding-refused why e = sym (unless_refused_lem _ why _ _ e ∙ ap (λ (n : ℕ). encoded (refused n) tags bytes) e)
+  encoding-refused r why is e =
+      handed_on (λ (x : Result ℕ Refusal). encoded (counted x) tags bytes) r why is
+      ∙ sym (unless_refused_lem _ why _ _ e ∙ ap (λ (n : ℕ). encoded (refused n) tags bytes) e)
 
   -- where no row applies there are whole groups, within the limit, with tags and room for each
   pub allowed : first_of t lent_encode encoding_rows ≡ 0
@@ -187,7 +193,7 @@ module _ (t values tags bytes : List ℕ) where
       )
 
   pub encoded_all : (is : Table t) {written : ℕ} {tags' bytes' : List ℕ} → first_of t lent_encode encoding_rows ≡ 0
-      → RunsEncode t values tags bytes (length values / 4) written tags' bytes' → encoded (accepted written 0) tags' bytes' ≡ encoding t values tags bytes
+      → RunsEncode t values tags bytes (length values / 4) written tags' bytes' → encoded (counted (Ok written)) tags' bytes' ≡ encoding t values tags bytes
   unfolding encoding
   encoded_all is {written} {tags'} {bytes'} e x =
       let a = allowed e in
@@ -204,7 +210,7 @@ module _ (t values tags bytes : List ℕ) where
 pub encoded_deltas_all : (t : List ℕ) (is : Table t) (m p : ℕ) (values tags bytes : List ℕ) {written : ℕ} {tags' bytes' : List ℕ}
     → first_of t (lent_to_encode (length (steps m p values)) tags (length bytes)) encoding_rows ≡ 0
     → RunsEncode t (steps m p values) tags bytes (length values / 4) written tags' bytes'
-    → encoded (accepted written 0) tags' bytes' ≡ encoding_deltas t m p values tags bytes
+    → encoded (counted (Ok written)) tags' bytes' ≡ encoding_deltas t m p values tags bytes
 encoded_deltas_all t is m p values tags bytes {written} {tags'} {bytes'} e x =
     encoded_all t (steps m p values) tags bytes is e
     (subst (λ (n : ℕ). RunsEncode t (steps m p values) tags bytes n written tags' bytes') (sym (ap (λ (n : ℕ). n / 4) (steps-length m p values))) x)
@@ -212,10 +218,10 @@ encoded_deltas_all t is m p values tags bytes {written} {tags'} {bytes'} e x =
 -- ---- tightness
 
 module _ (t tags bytes : List ℕ) where
-  pub testing-refused : (why : Refusal) → first_of t (lent_to_read tags (length bytes)) tightness_rows ≡ refusal_number why
-      → untested (refusal_number why) ≡ testing t tags bytes
+  pub testing-refused : (r : Result (Option Place) Refusal) (why : Refusal) → IsErrAnd r (λ e. e ≡ why)
+      → first_of t (lent_to_read tags (length bytes)) tightness_rows ≡ refusal_number why → tested r ≡ testing t tags bytes
   unfolding testing
-  testing-refused why e = sym (unless_refused_lem _ why _ _ e ∙ ap untested e)
+  testing-refused r why is e = handed_on tested r why is ∙ sym (unless_refused_lem _ why _ _ e ∙ ap untested e)
 
   pub tested_all : first_of t (lent_to_read tags (length bytes)) tightness_rows ≡ 0 → tightness_of t tags bytes ≡ testing t tags bytes
   unfolding testing

@@ -4,11 +4,11 @@
 ghost use Rattle.std.specs.Prelude.{◌≡◌, List, [], ◌∷◌, ℕ, ◌/◌, ◌≤◌, max, length};
 ghost use Rattle.packed.specs.Format.{data_len};
 ghost use Rattle.packed.specs.Stages.{widest_group, tail_takes, tail_copied};
-ghost use Rattle.packed.specs.Refusals.{Lent, Row, first_of, encoding_rows};
-ghost use Rattle.answers.specs.Meaning.{verdict_number, tested, place_of, count_rows, data_rows, limit_row, missing_row};
+ghost use Rattle.packed.specs.Refusals.{Lent, first_of, encoding_rows};
+ghost use Rattle.answers.specs.Meaning.{refusal_number, verdict_number, lent_counts, group_rows, count_rows, data_rows, limit_row, missing_row};
 
 // Why a call refused: the rows of the refusal table, in order.
-#[derive(Clone, Copy)]
+#[derive(Clone, Copy, Debug, PartialEq, Eq)]
 pub enum Refusal {
     NotFours,
     TooManyGroups,
@@ -19,130 +19,109 @@ pub enum Refusal {
     TailOverrun,
 }
 
-// What a check of a call's arguments finds.
-#[derive(Clone, Copy)]
-pub enum Verdict {
-    Accepted,
-    Refused(Refusal),
-}
-
-// What encoding, decoding and measuring answer: how many bytes.
-#[derive(Clone, Copy)]
-pub enum Counted {
-    Refused(Refusal),
-    Count(usize),
+impl Refusal {
+    // The row's number in the refusal table, by which C knows the refusal.
+    pub fn number(self) -> u8
+        ensures { result ≡ refusal_number self }
+    {
+        match self {
+            Refusal::NotFours => 1,
+            Refusal::TooManyGroups => 2,
+            Refusal::FewTags => 3,
+            Refusal::LittleRoom => 4,
+            Refusal::OtherTags => 5,
+            Refusal::MissingData => 6,
+            Refusal::TailOverrun => 7,
+        }
+    }
 }
 
 // What skipping answers: how many bytes were read, and the sum of the deltas.
-#[derive(Clone, Copy)]
-pub enum Skipped32 {
-    Refused(Refusal),
-    Read(usize, u32),
+#[derive(Clone, Copy, Debug, PartialEq, Eq)]
+pub struct Skipped<E> {
+    pub read: usize,
+    pub sum: E,
 }
 
-#[derive(Clone, Copy)]
-pub enum Skipped64 {
-    Refused(Refusal),
-    Read(usize, u64),
-}
-
-// What the tightness check answers: the loose case has the place of the first number that is wider than it need be.
-#[derive(Clone, Copy)]
-pub enum Tightness {
-    Refused(Refusal),
-    Tight,
-    Loose { group: usize, position: usize },
-}
-
-// What the search for a loose number finds, below the refusals: none, or the place of the first.
-#[derive(Clone, Copy)]
-pub enum Place {
-    None,
-    At { group: usize, position: usize },
-}
-
-// The tightness check's answer, where nothing was refused.
-pub fn placed(place: Place) -> Tightness
-    ensures { tested result ≡ place_of place }
-{
-    match place {
-        Place::None => Tightness::Tight,
-        Place::At { group, position } => Tightness::Loose { group, position },
-    }
+// Where the first number stands that is wider than it need be: its group, and its position there, 0 to 3.
+#[derive(Clone, Copy, Debug, PartialEq, Eq)]
+pub struct Place {
+    pub group: usize,
+    pub position: usize,
 }
 
 const GROUP_LIMIT: usize = 16_777_216;
 
+// Rows 1 and 2, for the calls that are lent values. groups is the count that stands against the limit.
+fn groups_verdict(values: usize, groups: usize) -> Result<(), Refusal>
+    ensures { verdict_number result ≡ first_of [] (lent_counts values groups) group_rows }
+{
+    if values % 4 != 0 {
+        return Err(Refusal::NotFours);
+    }
+    limit_verdict(groups)
+}
+
 // Rows 1 to 4, for encoding. widest is the count of bytes of the widest group.
-pub fn encode_verdict(values: usize, tags: usize, bytes: usize, widest: usize) -> Verdict
+pub fn encode_verdict(
+    values: usize,
+    tags: usize,
+    bytes: usize,
+    widest: usize,
+) -> Result<(), Refusal>
     requires { widest ≤ 32 }
     ensures { (t : List ℕ) (l : Lent) → l.values ≡ values → l.groups ≡ values / 4 → length l.tags ≡ tags → l.bytes ≡ bytes → widest_group t ≡ widest → verdict_number result ≡ first_of t l encoding_rows }
 {
     let groups = values / 4;
-    if values % 4 != 0 {
-        return Verdict::Refused(Refusal::NotFours);
-    }
-    if GROUP_LIMIT < groups {
-        return Verdict::Refused(Refusal::TooManyGroups);
-    }
+    groups_verdict(values, groups)?;
     if tags < groups {
-        return Verdict::Refused(Refusal::FewTags);
+        return Err(Refusal::FewTags);
     }
     if bytes < widest * groups {
-        return Verdict::Refused(Refusal::LittleRoom);
+        return Err(Refusal::LittleRoom);
     }
-    Verdict::Accepted
+    Ok(())
 }
 
 // Rows 1, 2 and 5, for decoding.
-pub fn count_verdict(values: usize, tags: usize) -> Verdict
+pub fn count_verdict(values: usize, tags: usize) -> Result<(), Refusal>
     ensures { (t : List ℕ) (l : Lent) → l.values ≡ values → l.groups ≡ max (values / 4) tags → length l.tags ≡ tags → verdict_number result ≡ first_of t l count_rows }
 {
     let groups = values / 4;
-    if values % 4 != 0 {
-        return Verdict::Refused(Refusal::NotFours);
-    }
-    if GROUP_LIMIT < groups {
-        return Verdict::Refused(Refusal::TooManyGroups);
-    }
-    if GROUP_LIMIT < tags {
-        return Verdict::Refused(Refusal::TooManyGroups);
-    }
+    groups_verdict(values, groups.max(tags))?;
     if tags != groups {
-        return Verdict::Refused(Refusal::OtherTags);
+        return Err(Refusal::OtherTags);
     }
-    Verdict::Accepted
+    Ok(())
 }
 
 // Row 2, for the calls that are lent no values.
-pub fn limit_verdict(groups: usize) -> Verdict
+pub fn limit_verdict(groups: usize) -> Result<(), Refusal>
     ensures { (t : List ℕ) (l : Lent) → l.groups ≡ groups → verdict_number result ≡ first_of t l limit_row }
 {
     if GROUP_LIMIT < groups {
-        return Verdict::Refused(Refusal::TooManyGroups);
+        return Err(Refusal::TooManyGroups);
     }
-    Verdict::Accepted
+    Ok(())
 }
 
 // Row 6, where total is the data_len of the tags.
-pub fn missing_verdict(bytes: usize, total: usize) -> Verdict
+pub fn missing_verdict(bytes: usize, total: usize) -> Result<(), Refusal>
     ensures { (t : List ℕ) (l : Lent) → l.bytes ≡ bytes → data_len t l.tags ≡ total → verdict_number result ≡ first_of t l missing_row }
 {
     if bytes < total {
-        return Verdict::Refused(Refusal::MissingData);
+        return Err(Refusal::MissingData);
     }
-    Verdict::Accepted
+    Ok(())
 }
 
 // Rows 6 and 7: the check on the tail is kept from the Rust's asserts.
-pub fn data_verdict(bytes: usize, total: usize, copied: usize, taken: usize) -> Verdict
+pub fn data_verdict(bytes: usize, total: usize, copied: usize, taken: usize) -> Result<(), Refusal>
     ensures { (t : List ℕ) (l : Lent) → l.bytes ≡ bytes → data_len t l.tags ≡ total → tail_copied t l.tags l.bytes ≡ copied → tail_takes t l.tags l.bytes ≡ taken → verdict_number result ≡ first_of t l data_rows }
 {
-    if bytes < total {
-        return Verdict::Refused(Refusal::MissingData);
-    }
+    missing_verdict(bytes, total)?;
     if copied < taken {
-        return Verdict::Refused(Refusal::TailOverrun);
+        return Err(Refusal::TailOverrun);
     }
-    Verdict::Accepted
+    Ok(())
 }

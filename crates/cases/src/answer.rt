@@ -1,97 +1,67 @@
 // Whether a call gave the answer of a case, `refused 4`, `count 7`, `count 4 sum 6`, `tight` or `loose group 1 position 0`, and left the
 // buffers as the case says.
-use crate::{byte, count, number32, number64, word};
-use answers::{Counted, Refusal, Skipped32, Skipped64, Tightness};
-
-// The part that has the answer.
-const ANSWER: usize = 4;
-
-// The row of the refusal table.
-fn row(why: Refusal) -> u64 {
-    match why {
-        Refusal::NotFours => 1,
-        Refusal::TooManyGroups => 2,
-        Refusal::FewTags => 3,
-        Refusal::LittleRoom => 4,
-        Refusal::OtherTags => 5,
-        Refusal::MissingData => 6,
-        Refusal::TailOverrun => 7,
-    }
-}
+use crate::Number;
+use crate::case::{Case, Part};
+use answers::{Place, Refusal, Skipped};
 
 // Whether the answer has a number at one place.
-fn has(case: &[u8], at: usize, n: u64) -> bool {
-    number64(case, ANSWER, at) == n
+fn has(case: Case, at: usize, number: u64) -> bool {
+    case.number(Part::Answer, at) == number
 }
 
 // Whether the answer begins with a name, and has a number at one place.
-fn says(case: &[u8], name: &[u8], at: usize, n: u64) -> bool {
-    check::same(word(case, ANSWER, 0), name) && has(case, at, n)
+fn says(case: Case, name: &[u8], at: usize, number: u64) -> bool {
+    case.word(Part::Answer, 0) == name && has(case, at, number)
 }
 
-fn is_refused(why: Refusal, case: &[u8]) -> bool {
-    says(case, b"refused", 1, row(why))
+fn is_refused(why: Refusal, case: Case) -> bool {
+    says(case, b"refused", 1, u64::from(why.number()))
 }
 
-pub fn is_counted(came: Counted, case: &[u8]) -> bool {
+pub fn is_counted(came: Result<usize, Refusal>, case: Case) -> bool {
     match came {
-        Counted::Refused(why) => is_refused(why, case),
-        Counted::Count(n) => says(case, b"count", 1, n as u64),
+        Ok(count) => says(case, b"count", 1, count as u64),
+        Err(why) => is_refused(why, case),
     }
 }
 
-pub fn is_skipped32(came: Skipped32, case: &[u8]) -> bool {
+pub fn is_skipped<E: Number>(came: Result<Skipped<E>, Refusal>, case: Case) -> bool {
     match came {
-        Skipped32::Refused(why) => is_refused(why, case),
-        Skipped32::Read(n, sum) => says(case, b"count", 1, n as u64) && has(case, 3, sum as u64),
+        Ok(Skipped { read, sum }) => {
+            says(case, b"count", 1, read as u64) && has(case, 3, sum.as_u64())
+        }
+        Err(why) => is_refused(why, case),
     }
 }
 
-pub fn is_skipped64(came: Skipped64, case: &[u8]) -> bool {
+pub fn is_tested(came: Result<Option<Place>, Refusal>, case: Case) -> bool {
     match came {
-        Skipped64::Refused(why) => is_refused(why, case),
-        Skipped64::Read(n, sum) => says(case, b"count", 1, n as u64) && has(case, 3, sum),
-    }
-}
-
-pub fn is_tested(came: Tightness, case: &[u8]) -> bool {
-    match came {
-        Tightness::Refused(why) => is_refused(why, case),
-        Tightness::Tight => says(case, b"tight", 1, 0),
-        Tightness::Loose { group, position } => {
+        Ok(None) => says(case, b"tight", 1, 0),
+        Ok(Some(Place { group, position })) => {
             says(case, b"loose", 2, group as u64) && has(case, 4, position as u64)
         }
+        Err(why) => is_refused(why, case),
     }
 }
 
 // Whether a buffer holds a part's bytes, and no more.
-fn is_bytes(buf: &[u8], case: &[u8], k: usize) -> bool {
-    for i in 0..buf.len() {
-        if buf[i] != byte(case, k, i) {
-            return false;
-        }
-    }
-    buf.len() == count(case, k)
+fn is_bytes(buf: &[u8], case: Case, part: Part) -> bool {
+    buf.len() == case.count(part)
+        && buf
+            .iter()
+            .enumerate()
+            .all(|(i, byte)| *byte == case.byte(part, i))
 }
 
-pub fn is_encoded(came: Counted, tags: &[u8], data: &[u8], case: &[u8]) -> bool {
-    is_counted(came, case) && is_bytes(tags, case, 5) && is_bytes(data, case, 6)
+pub fn is_encoded(came: Result<usize, Refusal>, tags: &[u8], data: &[u8], case: Case) -> bool {
+    is_counted(came, case)
+        && is_bytes(tags, case, Part::Left)
+        && is_bytes(data, case, Part::LeftData)
 }
 
-pub fn is_decoded32(came: Counted, values: &[u32], case: &[u8]) -> bool {
-    for i in 0..values.len() {
-        if values[i] != number32(case, 5, i) {
-            return false;
-        }
-    }
-    values.len() == count(case, 5) && is_counted(came, case)
-}
-
-pub fn is_decoded64(came: Counted, values: &[u64], case: &[u8]) -> bool {
-    for i in 0..values.len() {
-        if values[i] != number64(case, 5, i) {
-            return false;
-        }
-    }
-    values.len() == count(case, 5) && is_counted(came, case)
+pub fn is_decoded<E: Number>(came: Result<usize, Refusal>, values: &[E], case: Case) -> bool {
+    is_counted(came, case)
+        && values.len() == case.count(Part::Left)
+        && values.iter().enumerate().all(|(i, value)| *value
+            == E::wrapping_from(case.number(Part::Left, i)))
 }

@@ -5,13 +5,14 @@ ghost use Rattle.packed.specs.Calls.{encoded, encoding, encoding_deltas, decoded
 ghost use Rattle.chowderyard.specs.Boundary.{answered, told};
 
 use crate::{Answer, TightnessAnswer};
+use coding_descriptor::Coder0124;
 
 // Encodes values: the bytes written to data.
 #[unsafe(no_mangle)]
 pub extern "C" fn chowder_encode_0124(values: &[u32], tags: &mut [u8], data: &mut [u8]) -> Answer
     ensures { encoded (answered result) tags.new «data».new ≡ encoding t0124 values.now tags.old «data».old }
 {
-    crate::of_counted(coder0124::encode(values, tags, data))
+    coder::encode::<Coder0124>(values, tags, data).into()
 }
 
 // The same of the steps from start.
@@ -24,7 +25,7 @@ pub extern "C" fn chowder_encode_deltas_0124(
 ) -> Answer
     ensures { encoded (answered result) tags.new «data».new ≡ encoding_deltas t0124 m32 start values.now tags.old «data».old }
 {
-    crate::of_counted(coder0124::encode_deltas(start, values, tags, data))
+    coder::encode_deltas::<Coder0124>(start, values, tags, data).into()
 }
 
 // Decodes tags and data to fill values: the bytes read.
@@ -32,7 +33,7 @@ pub extern "C" fn chowder_encode_deltas_0124(
 pub extern "C" fn chowder_decode_0124(tags: &[u8], data: &[u8], values: &mut [u32]) -> Answer
     ensures { decoded (answered result) values.new ≡ decoding t0124 tags.now «data».now values.old }
 {
-    crate::of_counted(coder0124::decode(tags, data, values))
+    coder::decode::<Coder0124>(tags, data, values).into()
 }
 
 // The same, adding each number to the value before it, the first to start.
@@ -45,7 +46,7 @@ pub extern "C" fn chowder_decode_deltas_0124(
 ) -> Answer
     ensures { decoded (answered result) values.new ≡ decoding_deltas t0124 m32 start tags.now «data».now values.old }
 {
-    crate::of_counted(coder0124::decode_deltas(start, tags, data, values))
+    coder::decode_deltas::<Coder0124>(start, tags, data, values).into()
 }
 
 // The bytes that the numbers of all tags take.
@@ -53,7 +54,7 @@ pub extern "C" fn chowder_decode_deltas_0124(
 pub extern "C" fn chowder_data_len_0124(tags: &[u8]) -> Answer
     ensures { answered result ≡ measuring t0124 tags.now }
 {
-    crate::of_counted(coder0124::data_len(tags))
+    coder::data_len::<Coder0124>(tags).into()
 }
 
 // The bytes of all numbers and their wrapping sum.
@@ -61,7 +62,7 @@ pub extern "C" fn chowder_data_len_0124(tags: &[u8]) -> Answer
 pub extern "C" fn chowder_skip_deltas_0124(tags: &[u8], data: &[u8]) -> Answer
     ensures { answered result ≡ skipping t0124 m32 tags.now «data».now }
 {
-    crate::of_skipped32(coder0124::skip_deltas(tags, data))
+    coder::skip_deltas::<Coder0124>(tags, data).into()
 }
 
 // Whether each number is stored at its shortest width, or the place of the first that is not.
@@ -69,5 +70,5 @@ pub extern "C" fn chowder_skip_deltas_0124(tags: &[u8], data: &[u8]) -> Answer
 pub extern "C" fn chowder_tightness_0124(tags: &[u8], data: &[u8]) -> TightnessAnswer
     ensures { result ≡ told (testing t0124 tags.now «data».now) }
 {
-    crate::of_tightness(coder0124::tightness(tags, data))
+    crate::of_tightness(coder::tightness::<Coder0124>(tags, data))
 }

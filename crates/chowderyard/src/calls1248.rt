@@ -5,13 +5,14 @@ ghost use Rattle.packed.specs.Calls.{encoded, encoding, encoding_deltas, decoded
 ghost use Rattle.chowderyard.specs.Boundary.{answered, told};
 
 use crate::{Answer, TightnessAnswer};
+use coding_descriptor::Coder1248;
 
 // Encodes values: the bytes written to data.
 #[unsafe(no_mangle)]
 pub extern "C" fn chowder_encode_1248(values: &[u64], tags: &mut [u8], data: &mut [u8]) -> Answer
     ensures { encoded (answered result) tags.new «data».new ≡ encoding t1248 values.now tags.old «data».old }
 {
-    crate::of_counted(coder1248::encode(values, tags, data))
+    coder::encode::<Coder1248>(values, tags, data).into()
 }
 
 // The same of the steps from start.
@@ -24,7 +25,7 @@ pub extern "C" fn chowder_encode_deltas_1248(
 ) -> Answer
     ensures { encoded (answered result) tags.new «data».new ≡ encoding_deltas t1248 m64 start values.now tags.old «data».old }
 {
-    crate::of_counted(coder1248::encode_deltas(start, values, tags, data))
+    coder::encode_deltas::<Coder1248>(start, values, tags, data).into()
 }
 
 // Decodes tags and data to fill values: the bytes read.
@@ -32,7 +33,7 @@ pub extern "C" fn chowder_encode_deltas_1248(
 pub extern "C" fn chowder_decode_1248(tags: &[u8], data: &[u8], values: &mut [u64]) -> Answer
     ensures { decoded (answered result) values.new ≡ decoding t1248 tags.now «data».now values.old }
 {
-    crate::of_counted(coder1248::decode(tags, data, values))
+    coder::decode::<Coder1248>(tags, data, values).into()
 }
 
 // The same, adding each number to the value before it, the first to start.
@@ -45,7 +46,7 @@ pub extern "C" fn chowder_decode_deltas_1248(
 ) -> Answer
     ensures { decoded (answered result) values.new ≡ decoding_deltas t1248 m64 start tags.now «data».now values.old }
 {
-    crate::of_counted(coder1248::decode_deltas(start, tags, data, values))
+    coder::decode_deltas::<Coder1248>(start, tags, data, values).into()
 }
 
 // The bytes that the numbers of all tags take.
@@ -53,7 +54,7 @@ pub extern "C" fn chowder_decode_deltas_1248(
 pub extern "C" fn chowder_data_len_1248(tags: &[u8]) -> Answer
     ensures { answered result ≡ measuring t1248 tags.now }
 {
-    crate::of_counted(coder1248::data_len(tags))
+    coder::data_len::<Coder1248>(tags).into()
 }
 
 // The bytes of all numbers and their wrapping sum.
@@ -61,7 +62,7 @@ pub extern "C" fn chowder_data_len_1248(tags: &[u8]) -> Answer
 pub extern "C" fn chowder_skip_deltas_1248(tags: &[u8], data: &[u8]) -> Answer
     ensures { answered result ≡ skipping t1248 m64 tags.now «data».now }
 {
-    crate::of_skipped64(coder1248::skip_deltas(tags, data))
+    coder::skip_deltas::<Coder1248>(tags, data).into()
 }
 
 // Whether each number is stored at its shortest width, or the place of the first that is not.
@@ -69,5 +70,5 @@ pub extern "C" fn chowder_skip_deltas_1248(tags: &[u8], data: &[u8]) -> Answer
 pub extern "C" fn chowder_tightness_1248(tags: &[u8], data: &[u8]) -> TightnessAnswer
     ensures { result ≡ told (testing t1248 tags.now «data».now) }
 {
-    crate::of_tightness(coder1248::tightness(tags, data))
+    crate::of_tightness(coder::tightness::<Coder1248>(tags, data))
 }

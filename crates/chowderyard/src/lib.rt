@@ -3,10 +3,11 @@
 #![tactic(auto)]
 
 ghost use Rattle.std.specs.Prelude.{◌≡◌, ◌<◌};
-ghost use Rattle.answers.specs.Meaning.{refusal_number, counted, skipped32, skipped64, tested};
+ghost use Rattle.answers.specs.Meaning.{counted, skipped, tested};
 ghost use Rattle.chowderyard.specs.Boundary.{answered, told, position_of};
 
-use answers::{Counted, Refusal, Skipped32, Skipped64, Tightness};
+use answers::{Place, Refusal, Skipped};
+use elem::Elem;
 
 mod calls0124;
 mod calls1234;
@@ -31,95 +32,67 @@ pub struct TightnessAnswer {
     pub position: u8,
 }
 
-// The row of the refusal table.
-fn number_of(why: Refusal) -> u8
-    ensures { result ≡ refusal_number why }
-{
-    match why {
-        Refusal::NotFours => 1,
-        Refusal::TooManyGroups => 2,
-        Refusal::FewTags => 3,
-        Refusal::LittleRoom => 4,
-        Refusal::OtherTags => 5,
-        Refusal::MissingData => 6,
-        Refusal::TailOverrun => 7,
+impl From<Result<usize, Refusal>> for Answer {
+    ghost from_gives = { λ given made. answered made ≡ counted given };
+
+    fn from(answer: Result<usize, Refusal>) -> Answer {
+        match answer {
+            Ok(count) => Answer {
+                number: 0,
+                count: count as u64,
+                sum: 0,
+            },
+            Err(why) => Answer {
+                number: why.number(),
+                count: 0,
+                sum: 0,
+            },
+        }
     }
 }
 
-fn of_counted(answer: Counted) -> Answer
-    ensures { answered result ≡ counted answer }
-{
-    match answer {
-        Counted::Refused(why) => Answer {
-            number: number_of(why),
-            count: 0,
-            sum: 0,
-        },
-        Counted::Count(count) => Answer {
-            number: 0,
-            count: count as u64,
-            sum: 0,
-        },
-    }
-}
+impl<E: Elem> From<Result<Skipped<E>, Refusal>> for Answer {
+    ghost from_gives = { λ given made. answered made ≡ skipped E.number given };
 
-fn of_skipped32(answer: Skipped32) -> Answer
-    ensures { answered result ≡ skipped32 answer }
-{
-    match answer {
-        Skipped32::Refused(why) => Answer {
-            number: number_of(why),
-            count: 0,
-            sum: 0,
-        },
-        Skipped32::Read(count, sum) => Answer {
-            number: 0,
-            count: count as u64,
-            sum: sum as u64,
-        },
-    }
-}
-
-fn of_skipped64(answer: Skipped64) -> Answer
-    ensures { answered result ≡ skipped64 answer }
-{
-    match answer {
-        Skipped64::Refused(why) => Answer {
-            number: number_of(why),
-            count: 0,
-            sum: 0,
-        },
-        Skipped64::Read(count, sum) => Answer {
-            number: 0,
-            count: count as u64,
-            sum,
-        },
+    fn from(answer: Result<Skipped<E>, Refusal>) -> Answer {
+        match answer {
+            Ok(Skipped { read, sum }) => Answer {
+                number: 0,
+                count: read as u64,
+                sum: sum.as_u64(),
+            },
+            Err(why) => Answer {
+                number: why.number(),
+                count: 0,
+                sum: 0,
+            },
+        }
     }
 }
 
 // A position is one of four, so it fits a byte.
-fn of_tightness(answer: Tightness) -> TightnessAnswer
+fn of_tightness(answer: Result<Option<Place>, Refusal>) -> TightnessAnswer
     requires { position_of (tested answer) < 4 }
     ensures { result ≡ told (tested answer) }
 {
     match answer {
-        Tightness::Refused(why) => TightnessAnswer {
-            number: number_of(why),
-            loose: 0,
-            group: 0,
-            position: 0,
-        },
-        Tightness::Tight => TightnessAnswer {
+        Ok(None) => TightnessAnswer {
             number: 0,
             loose: 0,
             group: 0,
             position: 0,
         },
-        Tightness::Loose { group, position } => TightnessAnswer {
+        Ok(Some(Place { group, position })) => TightnessAnswer {
             number: 0,
             loose: 1,
             group: group as u64,
             position: position as u8,
+        },
+        Err(why) => TightnessAnswer {
+            number: why.number(),
+            loose: 0,
+            group: 0,
+            position: 0,
         },
     }
 }

@@ -1,140 +1,44 @@
 // Groups through coder 1234.
-use crate::lines;
-use crate::lines::{Got, Skip, Stored};
-use raw_group1234::coding_descriptor::{data_len, tag_len, tag_length_table, tag_max};
-use raw_group1234::raw_group;
+use crate::groups::{Shown, both, deltas, length, reads};
+use coding_descriptor::Coder1234;
 
-fn encode(group: [u32; 4]) -> Stored {
-    let mut output = [0xAAu8; 40];
-    let e = raw_group::encode(&mut output, 2, group);
-    Stored {
-        tag: e.tag,
-        written: e.written,
-        output,
-    }
-}
-
-fn encode_deltas(base: u32, group: [u32; 4]) -> Stored {
-    let mut output = [0xAAu8; 40];
-    let e = raw_group::encode_deltas(&mut output, 2, [9, 9, 9, base], group);
-    Stored {
-        tag: e.tag,
-        written: e.written,
-        output,
-    }
-}
-
-fn decode(tag: u8, data: &[u8], behind: u8) -> Got {
-    let lens = tag_len();
-    let masks = tag_max();
-    let input = lines::laid(data, behind);
-    let d = raw_group::decode(&input, 2, tag, &lens, &masks);
-    let group = d.group;
-    Got {
-        read: d.read,
-        group: lines::wide(group),
-    }
-}
-
-fn decode_deltas(base: u32, tag: u8, data: &[u8], behind: u8) -> Got {
-    let lens = tag_len();
-    let masks = tag_max();
-    let input = lines::laid(data, behind);
-    let d = raw_group::decode_deltas(&input, 2, tag, [9, 9, 9, base], &lens, &masks);
-    let group = d.group;
-    Got {
-        read: d.read,
-        group: lines::wide(group),
-    }
-}
-
-fn skip_deltas(tag: u8, data: &[u8], behind: u8) -> Skip {
-    let lens = tag_len();
-    let masks = tag_max();
-    let input = lines::laid(data, behind);
-    let s = raw_group::skip_deltas(&input, 2, tag, &lens, &masks);
-    Skip {
-        read: s.read,
-        sum: s.sum as u64,
-    }
-}
-
-fn reads(rt: &impl Print, tag: u8, data: &[u8], group: [u32; 4]) {
-    lines::text(rt, b"1234:");
-    lines::show_read(
-        rt,
-        tag,
-        data,
-        lines::wide(group),
-        decode(tag, data, 0),
-        decode(tag, data, 255),
-    );
-}
-
-fn both(rt: &impl Print, group: [u32; 4], tag: u8, data: &[u8]) {
-    lines::text(rt, b"1234:");
-    lines::show_stored(rt, lines::wide(group), tag, data, encode(group));
-    reads(rt, tag, data, group);
-}
-
-fn deltas(rt: &impl Print, base: u32, group: [u32; 4], tag: u8, data: &[u8], sum: u32) {
-    lines::text(rt, b"1234 deltas");
-    lines::start(rt, base as u64);
-    lines::show_stored(
-        rt,
-        lines::wide(group),
-        tag,
-        data,
-        encode_deltas(base, group),
-    );
-    lines::text(rt, b"1234 deltas");
-    lines::start(rt, base as u64);
-    let zeros = decode_deltas(base, tag, data, 0);
-    let ones = decode_deltas(base, tag, data, 255);
-    lines::show_read(rt, tag, data, lines::wide(group), zeros, ones);
-    lines::text(rt, b"1234:");
-    lines::show_skip(rt, tag, data, sum as u64, skip_deltas(tag, data, 255));
-}
-
-fn length(rt: &impl Print, tag: u8, len: usize) {
-    let lens = tag_length_table();
-    lines::text(rt, b"1234:");
-    lines::show_length(rt, tag, len, data_len(tag, &lens));
+impl Shown for Coder1234 {
+    const NAME: &'static str = "1234";
 }
 
 pub fn run(rt: &impl Print) {
-    both(
+    both::<Coder1234>(
         rt,
         [0, 255, 256, 65536],
         0x90,
         b"\x00\xFF\x00\x01\x00\x00\x01",
     );
-    both(rt, [0, 0, 0, 0], 0x00, b"\x00\x00\x00\x00");
-    both(
+    both::<Coder1234>(rt, [0, 0, 0, 0], 0x00, b"\x00\x00\x00\x00");
+    both::<Coder1234>(
         rt,
         [255, 256, 65535, 65536],
         0x94,
         b"\xFF\x00\x01\xFF\xFF\x00\x00\x01",
     );
-    both(
+    both::<Coder1234>(
         rt,
         [16777215, 16777216, 4294967295, 1],
         0x3E,
         b"\xFF\xFF\xFF\x00\x00\x00\x01\xFF\xFF\xFF\xFF\x01",
     );
-    both(
+    both::<Coder1234>(
         rt,
         [4294967295, 4294967295, 4294967295, 4294967295],
         0xFF,
         b"\xFF\xFF\xFF\xFF\xFF\xFF\xFF\xFF\xFF\xFF\xFF\xFF\xFF\xFF\xFF\xFF",
     );
-    reads(
+    reads::<Coder1234>(
         rt,
         0xFF,
         b"\x05\x00\x00\x00\x05\x00\x00\x00\x05\x00\x00\x00\x05\x00\x00\x00",
         [5, 5, 5, 5],
     );
-    deltas(
+    deltas::<Coder1234>(
         rt,
         1798,
         [1799, 1802, 1803, 1804],
@@ -142,7 +46,7 @@ pub fn run(rt: &impl Print) {
         b"\x01\x03\x01\x01",
         6,
     );
-    deltas(
+    deltas::<Coder1234>(
         rt,
         5,
         [4, 4, 4, 4],
@@ -150,7 +54,7 @@ pub fn run(rt: &impl Print) {
         b"\xFF\xFF\xFF\xFF\x00\x00\x00",
         4294967295,
     );
-    length(rt, 0xE4, 10);
-    length(rt, 0xFF, 16);
-    length(rt, 0x00, 4);
+    length::<Coder1234>(rt, 0xE4, 10);
+    length::<Coder1234>(rt, 0xFF, 16);
+    length::<Coder1234>(rt, 0x00, 4);
 }

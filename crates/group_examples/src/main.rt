@@ -5,6 +5,7 @@
 mod coder0124;
 mod coder1234;
 mod coder1248;
+mod groups;
 mod lines;
 
 fn main(rt: HostRuntime) {

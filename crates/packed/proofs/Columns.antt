@@ -5,8 +5,8 @@ use Prim.Native.Nat.{ℕ, suc, ◌+◌, ◌-◌, ◌*◌, ◌%◌, ◌≤◌, �
 use native.Mathlib.Nat.{add-zero, zero-add, add_assoc, mod-eq_of_lt, mod-add-mod, add-mod-mod, lt-suc_self}
 use native.Mathlib.Numerals.{add-one}
 use native.Mathlib.Omega.{arith}
-use lib.ListN.{length, take, drop, get_or, length-drop, length-append, replicate, set, drop_of_length-le}
-use lib.Seq.{drop-cons, sets, sets-eq, take-append-le, slice, slice_empty, slice-cons, length-slice, length-take-le, take-add, drop-drop, drop_at, drop-append-le}
+use lib.ListN.{length, take, drop, get_or, length-drop, length-append, replicate}
+use lib.Seq.{sets, sets-eq, take-append-le, slice, slice_empty, slice-cons, length-slice, length-take-le, take-add, drop-drop, drop_at, drop-append-le}
 use Rattle.packed.specs.Format.{widths, column_widths, total, data_len, numbers, stored, walked, wrapping_sum}
 use Rattle.packed.specs.Group.{Decodes, DecodesDeltas, Skips}
 use Rattle.packed.specs.Column.{Runs, RunsDeltas, RunsSum, Tail}
@@ -197,29 +197,6 @@ scratch_same t part bytes scratch at e short fit =
     let is : scratch ≡ rest ++ drop (0 + length rest) zeros = e ∙ sets-eq rest zeros 0 (rw (zero-add (length rest)) short) in
     numbers_same (column_widths t part) scratch rest
     (ap (take n) is ∙ take-append-le n rest (drop (0 + length rest) zeros) fit)
-
--- the loop that fills it: what is left to do
-pub record Copying (bytes : List ℕ) (at k : ℕ) (buf : List ℕ) : Type 0 where
-  pub inside : at + k ≤ length bytes
-  pub left : sets buf k (drop (at + k) bytes) ≡ sets (replicate 64 0) 0 (drop at bytes)
-
-pub copying_start : (bytes : List ℕ) (at : ℕ) → at ≤ length bytes → Copying bytes at 0 (replicate 64 0)
-copying_start bytes at h = record { inside = omega arith; left = rw (add-zero at) }
-
-pub copying_next : {bytes : List ℕ} {at k : ℕ} {buf : List ℕ} → Copying bytes at k buf → at + k < length bytes
-    → Copying bytes at (k + 1) (set buf k (get_or bytes (at + k) 0))
-copying_next {bytes} {at} {k} {buf} c h =
-    let cut : drop (at + k) bytes ≡ get_or bytes (at + k) 0 ∷ drop (suc (at + k)) bytes = drop-cons bytes (at + k) 0 h in
-    let e : at + (k + 1) ≡ suc (at + k) = omega arith in
-    record {
-      inside = omega arith;
-      left = ap₂ (λ (i n : ℕ). sets (set buf k (get_or bytes (at + k) 0)) i (drop n bytes)) (add-one k) e
-          ∙ sym (ap (sets buf k) cut) ∙ c.left;
-    }
-
-pub copying_done : {bytes : List ℕ} {at k : ℕ} {buf : List ℕ} → Copying bytes at k buf → length bytes - at ≤ k → buf ≡ sets (replicate 64 0) 0 (drop at bytes)
-copying_done {bytes} {at} {k} {buf} c h =
-    sym (ap (sets buf k) (drop_of_length-le bytes {i = at + k} (omega arith))) ∙ c.left
 
 pub tail_same : (t tags bytes scratch : List ℕ) (g at : ℕ) → Tail t tags bytes g at → scratch ≡ sets (replicate 64 0) 0 (drop at bytes)
     → widest_group t ≤ 64 → stored t (slice g (length tags) tags) scratch ≡ stored t (slice g (length tags) tags) (drop at bytes)

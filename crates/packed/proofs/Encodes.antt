@@ -119,32 +119,10 @@ module _ (t : List ℕ) where
     pub same_bytes : length bytes ≡ length bytes₀
     pub runs : RunsEncode t ds tags₀ bytes₀ i written tags bytes
 
-  pub running_encode_start : (ds tags bytes : List ℕ) (n : ℕ) → RunningEncode ds tags bytes n 0 0 tags bytes
-  running_encode_start ds tags bytes n = record {
-    inside = zero-le;
-    room = zero-le;
-    same-tags = refl;
-    same_bytes = refl;
-    runs = encode_none ds tags bytes;
-  }
-
-  pub running_encode_done : {ds tags₀ bytes₀ tags bytes : List ℕ} {n i written : ℕ} → RunningEncode ds tags₀ bytes₀ n i written tags bytes → n ≤ i
-      → RunsEncode t ds tags₀ bytes₀ n written tags bytes
-  running_encode_done {ds} {tags₀} {bytes₀} {tags} {bytes} {n} {i} {written} r h =
-      let e : i ≡ n = omega (arith, r.inside) in
-      subst (λ (k : ℕ). RunsEncode t ds tags₀ bytes₀ k written tags bytes) e r.runs
-
   -- of deltas: the steps from p on are stored, and base ends with the value before the next group
   pub record RunningSteps (m p : ℕ) (values tags₀ bytes₀ : List ℕ) (n i written : ℕ) (base tags bytes : List ℕ) : Type 0 where
     pub running : RunningEncode (steps m p values) tags₀ bytes₀ n i written tags bytes
     pub before : get_or base 3 0 ≡ last_of p (take (4 * i) values)
-
-  pub running_steps_start : (m p : ℕ) (values tags bytes : List ℕ) (n : ℕ) (base : List ℕ) → get_or base 3 0 ≡ p
-      → RunningSteps m p values tags bytes n 0 0 base tags bytes
-  running_steps_start m p values tags bytes n base e = record {
-    running = running_encode_start (steps m p values) tags bytes n;
-    before = e;
-  }
 
   -- ---- a whole column
 

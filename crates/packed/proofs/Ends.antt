@@ -453,11 +453,6 @@ module _ (t : List ℕ) (is : Table t) where
   at_eights_stop {tags} {bytes} {i} {read} len8 a m short =
       ended a.measured a.room (sym (eights_stop tags (length bytes) i read len8 m.inside m.len short) ∙ a.left)
 
-  pub at_eights_out : {tags bytes : List ℕ} {i read : ℕ} → AtEights tags bytes i read → length tags - i < 8
-      → EndsAt t tags bytes (eights t tags (length bytes)) i read
-  at_eights_out {tags} {bytes} {i} {read} a h =
-      ended a.measured a.room (sym (eights_out tags (length bytes - read) i h) ∙ a.left)
-
   -- the second stage's loop, from where the first ended
   pub record AtSingles (tags bytes : List ℕ) (from start i read : ℕ) : Type 0 where
     pub measured : Measured t tags 0 i read
@@ -488,11 +483,6 @@ module _ (t : List ℕ) (is : Table t) where
       → length bytes - read < widest_group t → EndsAt t tags bytes (from + singles t (drop from tags) (length bytes - start)) i read
   at_singles_stop {tags} {bytes} {from} {start} {i} {read} a h short =
       ended a.measured a.room (sym (singles_stop tags (length bytes - read) i h short) ∙ a.left)
-
-  pub at_singles_out : {tags bytes : List ℕ} {from start i read : ℕ} → AtSingles tags bytes from start i read → length tags ≤ i
-      → EndsAt t tags bytes (from + singles t (drop from tags) (length bytes - start)) i read
-  at_singles_out {tags} {bytes} {from} {start} {i} {read} a h =
-      ended a.measured a.room (sym (singles_out tags (length bytes - read) i h) ∙ a.left)
 
   copied_is : (rest : List ℕ) (n copied : ℕ) → (0 < length rest → copied ≡ n) → (length rest ≡ 0 → copied ≡ 0) → copied ≡ where_any rest n
   copied_is [] n copied some none = none refl

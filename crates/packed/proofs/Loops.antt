@@ -4,14 +4,14 @@ use mathlib.Core.Path.{◌≡◌, refl, ap, ap₂, sym, ◌∙◌, subst}
 use mathlib.Core.Bool.{Bool, true}
 use mathlib.Core.List.{List, [], ◌∷◌, ◌++◌, map, append_assoc, append-nil}
 use Prim.Native.Nat.{ℕ, zero, suc, ◌+◌, ◌-◌, ◌*◌, ◌/◌, ◌%◌, ◌^◌, ◌≤◌, ◌<◌, zero-le}
-use native.Mathlib.Nat.{add-zero, zero-add, add_assoc, add-suc, suc-add, mul-suc, sub-zero, div-one, zero-lt-suc, mod-lt, mod-eq_of_lt, mod-add-mod}
+use native.Mathlib.Nat.{add-zero, zero-add, add_assoc, add-suc, suc-add, mul-suc, zero-lt-suc, mod-lt, mod-add-mod}
 use native.Mathlib.Numerals.{add-one}
 use native.Mathlib.Omega.{arith}
 use lib.Dec.{T, leb, leb→le}
-use lib.ListN.{length, take, drop, get_or, set, length-append, length-set, drop_of_length-le, get_or-map}
+use lib.ListN.{length, take, drop, get_or, set, length-append, length-set, get_or-map}
 use lib.Seq.{sets, length-sets, drop-cons, drop-drop, take-suc-set, take_all}
 use Rattle.packed.specs.Format.{widths, total, le_value, numbers, le_bytes, shortest, short_width, tag_of, bytes_of, wrapping_sum}
-use Rattle.packed.specs.Group.{Shortest, Decodes, Encodes}
+use Rattle.packed.specs.Group.{Shortest, Decodes}
 use Rattle.packed.proofs.Bytes.{Below, le_bytes-length}
 use Rattle.packed.proofs.Fours.{four_of, four_is}
 use Rattle.packed.proofs.Table.{both, both_left, both_right}
@@ -51,13 +51,6 @@ pub record Storing (before : List ℕ) (at len value i rest : ℕ) (out : List �
   pub same : length out ≡ length before
   pub left : sets out (at + i) (le_bytes (len - i) rest) ≡ sets before at (le_bytes len value)
 
-pub storing_start : (before : List ℕ) (at len value : ℕ) → Storing before at len value 0 value before
-storing_start before at len value = record {
-  turn = zero-le;
-  same = refl;
-  left = rw (add-zero, sub-zero);
-}
-
 pub storing_next : {before : List ℕ} {at len value i rest : ℕ} {out : List ℕ} → Storing before at len value i rest out → i < len
     → Storing before at len value (i + 1) (rest / 256) (set out (at + i) (rest % 256))
 storing_next {before} {at} {len} {value} {i} {rest} {out} s h =
@@ -70,12 +63,6 @@ storing_next {before} {at} {len} {value} {i} {rest} {out} s h =
           ∙ sym (ap (λ (n : ℕ). sets out (at + i) (le_bytes n rest)) e) ∙ s.left;
     }
 
-pub storing_done : {before : List ℕ} {at len value i rest : ℕ} {out : List ℕ} → Storing before at len value i rest out → len ≤ i
-    → out ≡ sets before at (le_bytes len value)
-storing_done {before} {at} {len} {value} {i} {rest} {out} s h =
-    let e : len - i ≡ 0 = omega arith in
-    sym (ap (λ (n : ℕ). sets out (at + i) (le_bytes n rest)) e) ∙ s.left
-
 -- ---- `decode`: four numbers, one after the other
 
 pub record Decoding (t input : List ℕ) (at tag w i rest read : ℕ) (buf : List ℕ) : Type 0 where
@@ -85,16 +72,6 @@ pub record Decoding (t input : List ℕ) (at tag w i rest read : ℕ) (buf : Lis
   pub four : length buf ≡ 4
   pub read_left : read + total (drop i (widths t tag)) ≡ total (widths t tag)
   pub left : take i buf ++ numbers (drop i (widths t tag)) (drop (at + read) input) ≡ numbers (widths t tag) (drop at input)
-
-pub decoding_start : (t input : List ℕ) (at tag w : ℕ) → Decoding t input at tag w 0 tag 0 (0 ∷ 0 ∷ 0 ∷ 0 ∷ [])
-decoding_start t input at tag w = record {
-  turn = zero-le;
-  rest_is = sym (div-one tag);
-  room = zero-le;
-  four = refl;
-  read_left = zero-add (total (widths t tag));
-  left = rw add-zero;
-}
 
 next : {t input : List ℕ} {at tag w i rest read : ℕ} {buf : List ℕ} (x : ℕ) → Decoding t input at tag w i rest read buf
     → i < 4 → T (all_le w t) → x ≡ le_value (take (get_or t (rest % 4) 0) (drop (at + read) input))
@@ -214,16 +191,6 @@ encoding_next {t} {group} {before} {at} {w} {i} {tag} {written} {out} f len out'
           ∙ ap (sets out (at + written)) (sym bytes) ∙ c.left);
     }
 
-pub encoding_done : {t group before : List ℕ} {at w i tag written : ℕ} {out : List ℕ} → Encoding t group before at w i tag written out
-    → length group ≡ 4 → 4 ≤ i → Encodes t group before at tag written out
-encoding_done {t} {group} {before} {at} {w} {i} {tag} {written} {out} c g h =
-    let none : drop i group ≡ [] = drop_of_length-le group {i = i} (omega (arith, g)) in
-    record {
-      tag = ap (λ (l : List ℕ). tag_end tag (map (shortest t) l)) (sym none) ∙ c.tag_left;
-      written = sym (add-zero written) ∙ ap (λ (l : List ℕ). written + length (bytes_of t l)) (sym none) ∙ c.written_left;
-      output = ap (λ (l : List ℕ). sets out (at + written) (bytes_of t l)) (sym none) ∙ c.left;
-    }
-
 -- ---- `sum`: four numbers added up, modulo m
 
 pub record Summing (group : List ℕ) (m i s : ℕ) : Type 0 where
@@ -252,8 +219,3 @@ summing_next {group} {m} {i} {s} s' c h g e =
       left = rw add-one (ap (λ (n : ℕ). (n + rest) % m) e ∙ mod-add-mod (s + v) m rest ∙ ap (λ (n : ℕ). n % m) (add_assoc s v rest)
           ∙ ap (λ (l : List ℕ). (s + total l) % m) (sym cut) ∙ c.left);
     }
-
-pub summing_done : {group : List ℕ} {m i s : ℕ} → Summing group m i s → length group ≡ 4 → 4 ≤ i → s ≡ wrapping_sum m group
-summing_done {group} {m} {i} {s} c g h =
-    let none : drop i group ≡ [] = drop_of_length-le group {i = i} (omega (arith, g)) in
-    sym (mod-eq_of_lt c.small) ∙ ap (λ (n : ℕ). n % m) (sym (add-zero s)) ∙ ap (λ (l : List ℕ). (s + total l) % m) (sym none) ∙ c.left

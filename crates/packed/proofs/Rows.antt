@@ -2,20 +2,17 @@
 use mathlib.Core.Path.{◌≡◌, refl, ap, sym, ◌∙◌}
 use mathlib.Core.Bool.{Bool, true, false, not}
 use mathlib.Core.List.{List, [], ◌∷◌, ◌++◌}
-use Prim.Native.Nat.{ℕ, suc, ◌*◌, ◌/◌, ◌%◌, ◌≤◌, ◌<◌}
+use Prim.Native.Nat.{ℕ, suc, ◌*◌, ◌/◌, ◌%◌, ◌≤◌}
 use native.Mathlib.Omega.{arith}
 use lib.Dec.{eqb}
 use lib.ListN.{length}
-use borrow.Author.Tests.{lt-ltb, le-ltb, eq-eqb, ne_eqb, ltb-false, eqb-true, not-false}
+use borrow.Author.Tests.{le-ltb, eq-eqb, ltb-false, eqb-true, not-false}
 use Rattle.packed.specs.Format.{pick, data_len}
 use Rattle.packed.specs.Stages.{widest_group, tail_takes, tail_copied}
 use Rattle.packed.specs.Refusals.{Lent, Row, not_fours, too_many_groups, few_tags, little_room, other_tags, missing_data, tail_overrun, number, group_limit, applies, first_of}
 
 module _ (t : List ℕ) (l : Lent) where
   -- ---- the first row
-
-  pub hit : (r : Row) (rs : List Row) → applies t l r ≡ true → number r ≡ first_of t l (r ∷ rs)
-  hit r rs e = sym (ap (λ (b : Bool). pick b (number r) (first_of t l rs)) e)
 
   pub miss : (r : Row) (rs : List Row) (n : ℕ) → applies t l r ≡ false → n ≡ first_of t l rs → n ≡ first_of t l (r ∷ rs)
   miss r rs n e h = h ∙ sym (ap (λ (b : Bool). pick b (number r) (first_of t l rs)) e)
@@ -51,17 +48,11 @@ module _ (t : List ℕ) (l : Lent) where
 
   -- ---- each row's test as a fact, both ways
 
-  pub not_fours_yes : (l.values % 4 ≡ 0 → ⊥) → applies t l not_fours ≡ true
-  not_fours_yes h = ap not (ne_eqb (l.values % 4) 0 h)
-
   pub not_fours_no : l.values % 4 ≡ 0 → applies t l not_fours ≡ false
   not_fours_no h = ap not (eq-eqb (l.values % 4) 0 h)
 
   pub fours : applies t l not_fours ≡ false → l.values % 4 ≡ 0
   fours e = eqb-true (l.values % 4) 0 (not-false (eqb (l.values % 4) 0) e)
-
-  pub too_many_yes : group_limit < l.groups → applies t l too_many_groups ≡ true
-  too_many_yes h = lt-ltb group_limit l.groups h
 
   pub too_many_no : l.groups ≤ group_limit → applies t l too_many_groups ≡ false
   too_many_no h = le-ltb group_limit l.groups h
@@ -69,26 +60,11 @@ module _ (t : List ℕ) (l : Lent) where
   pub few_groups : applies t l too_many_groups ≡ false → l.groups ≤ group_limit
   few_groups e = ltb-false group_limit l.groups e
 
-  pub few_tags_yes : length l.tags < l.values / 4 → applies t l few_tags ≡ true
-  few_tags_yes h = lt-ltb (length l.tags) (l.values / 4) h
-
-  pub few_tags_no : l.values / 4 ≤ length l.tags → applies t l few_tags ≡ false
-  few_tags_no h = le-ltb (length l.tags) (l.values / 4) h
-
   pub enough_tags : applies t l few_tags ≡ false → l.values / 4 ≤ length l.tags
   enough_tags e = ltb-false (length l.tags) (l.values / 4) e
 
-  pub little_room_yes : l.bytes < widest_group t * (l.values / 4) → applies t l little_room ≡ true
-  little_room_yes h = lt-ltb l.bytes (widest_group t * (l.values / 4)) h
-
-  pub little_room_no : widest_group t * (l.values / 4) ≤ l.bytes → applies t l little_room ≡ false
-  little_room_no h = le-ltb l.bytes (widest_group t * (l.values / 4)) h
-
   pub enough_room : applies t l little_room ≡ false → widest_group t * (l.values / 4) ≤ l.bytes
   enough_room e = ltb-false l.bytes (widest_group t * (l.values / 4)) e
-
-  pub other_tags_yes : (length l.tags ≡ l.values / 4 → ⊥) → applies t l other_tags ≡ true
-  other_tags_yes h = ap not (ne_eqb (length l.tags) (l.values / 4) h)
 
   pub other_tags_no : length l.tags ≡ l.values / 4 → applies t l other_tags ≡ false
   other_tags_no h = ap not (eq-eqb (length l.tags) (l.values / 4) h)
@@ -96,17 +72,11 @@ module _ (t : List ℕ) (l : Lent) where
   pub matching_tags : applies t l other_tags ≡ false → length l.tags ≡ l.values / 4
   matching_tags e = eqb-true (length l.tags) (l.values / 4) (not-false (eqb (length l.tags) (l.values / 4)) e)
 
-  pub missing_data_yes : l.bytes < data_len t l.tags → applies t l missing_data ≡ true
-  missing_data_yes h = lt-ltb l.bytes (data_len t l.tags) h
-
   pub missing_data_no : data_len t l.tags ≤ l.bytes → applies t l missing_data ≡ false
   missing_data_no h = le-ltb l.bytes (data_len t l.tags) h
 
   pub enough_data : applies t l missing_data ≡ false → data_len t l.tags ≤ l.bytes
   enough_data e = ltb-false l.bytes (data_len t l.tags) e
-
-  pub tail_overrun_yes : tail_copied t l.tags l.bytes < tail_takes t l.tags l.bytes → applies t l tail_overrun ≡ true
-  tail_overrun_yes h = lt-ltb (tail_copied t l.tags l.bytes) (tail_takes t l.tags l.bytes) h
 
   pub tail_overrun_no : tail_takes t l.tags l.bytes ≤ tail_copied t l.tags l.bytes → applies t l tail_overrun ≡ false
   tail_overrun_no h = le-ltb (tail_copied t l.tags l.bytes) (tail_takes t l.tags l.bytes) h

@@ -4,7 +4,7 @@ use mathlib.Core.Path.{◌≡◌, refl, ap, ap₂, sym, ◌∙◌, subst}
 use mathlib.Core.Bool.{Bool}
 use mathlib.Core.List.{List, [], ◌∷◌, ◌++◌}
 use Prim.Native.Nat.{ℕ, suc, ◌+◌, ◌-◌, ◌*◌, ◌/◌, ◌%◌, ◌^◌, ◌≤◌, ◌<◌, zero-le}
-use native.Mathlib.Nat.{add-zero, zero-add, add_assoc, mul_comm, add_comm, sub-zero, div-one, le_refl, lt_of_lt_of_le}
+use native.Mathlib.Nat.{add-zero, zero-add, add_assoc, mul_comm, add_comm, div-one, lt_of_lt_of_le}
 use native.Mathlib.Numerals.{add-one}
 use native.Mathlib.Omega.{arith}
 use lib.ListN.{length, take, drop, get_or, drop_of_length-le}
@@ -23,11 +23,6 @@ pub record Gathering (bytes : List ℕ) (at len k value : ℕ) : Type 0 where
   pub inside : k ≤ len
   pub there : at + len ≤ length bytes
   pub value_is : value ≡ le_value (take (len - k) (drop (at + k) bytes))
-
-pub gathering_start : (bytes : List ℕ) (at len : ℕ) → at + len ≤ length bytes → Gathering bytes at len len 0
-gathering_start bytes at len h =
-    let none : 0 ≡ len - len = omega arith in
-    record { inside = le_refl len; there = h; value_is = ap (λ (n : ℕ). le_value (take n (drop (at + len) bytes))) none }
 
 pub gathering_next : {bytes : List ℕ} {at len k value : ℕ} (b : ℕ) → Gathering bytes at len k value → 0 < k → b ≡ get_or bytes (at + (k - 1)) 0
     → Gathering bytes at len (k - 1) (value * 256 + b)
@@ -56,12 +51,6 @@ gathering_fits {bytes} {at} {len} {k} {value} w g b h =
 pub gathering_next_fits : {bytes : List ℕ} {at len k value : ℕ} (w : ℕ) → Gathering bytes at len k value → 0 < k → Below 256 bytes → len ≤ w
     → value * 256 + get_or bytes (at + (k - 1)) 0 < 256 ^ w
 gathering_next_fits {bytes} {at} {len} {k} {value} w g h b n = gathering_fits w (gathering_next (get_or bytes (at + (k - 1)) 0) g h refl) b n
-
-pub gathering_done : {bytes : List ℕ} {at len k value : ℕ} → Gathering bytes at len k value → k ≤ 0 → value ≡ le_value (take len (drop at bytes))
-gathering_done {bytes} {at} {len} {k} {value} g h =
-    let none : k ≡ 0 = omega arith in
-    g.value_is ∙ ap (λ (n : ℕ). le_value (take (len - n) (drop (at + n) bytes))) none
-    ∙ ap₂ (λ (n i : ℕ). le_value (take n (drop i bytes))) (sub-zero len) (add-zero at)
 
 module _ (t : List ℕ) where
   -- ---- the run, one number more or stopped

@@ -2,8 +2,7 @@
 -- widths are at most w. Assumes nothing.
 use mathlib.Core.Path.{◌≡◌, refl, ap, ap₂, sym, ◌∙◌}
 use mathlib.Core.List.{List, [], ◌∷◌}
-use Prim.Native.Nat.{ℕ, ◌+◌, ◌-◌, ◌*◌, ◌/◌, ◌%◌, ◌^◌, ◌≤◌}
-use native.Mathlib.Nat.{le_trans}
+use Prim.Native.Nat.{ℕ, ◌+◌, ◌-◌, ◌*◌, ◌/◌, ◌%◌, ◌^◌, ◌≤◌, ◌<◌}
 use native.Mathlib.Omega.{arith}
 use lib.ListN.{take, drop, get_or}
 use lib.Seq.{drop-drop}
@@ -16,25 +15,26 @@ use Rattle.places.specs.Places.{place_of}
 abbrev pub width : List ℕ → ℕ → ℕ → ℕ
 width t tag i = get_or t (field tag i) 0
 
--- An entry taken apart: four places.
+-- An entry taken apart: four places. Since it has 32 bits, where its group ends fits its high byte.
 pub record Parts (t : List ℕ) (tag x : ℕ) : Type 0 where
   pub second : x % 256 ≡ width t tag 0
   pub third : x / 256 % 256 ≡ width t tag 0 + width t tag 1
   pub fourth : x / 65536 % 256 ≡ width t tag 0 + width t tag 1 + width t tag 2
   pub end : x / 16777216 ≡ width t tag 0 + width t tag 1 + width t tag 2 + width t tag 3
 
-apart : (a b c d x : ℕ) → a ≤ 8 → b ≤ 8 → c ≤ 8 → d ≤ 8
+apart : (a b c d x : ℕ) → x < 2 ^ 32
     → x ≡ (a + 0) + 256 * (a + (b + 0)) + 65536 * (a + (b + (c + 0))) + 16777216 * (a + (b + (c + (d + 0))))
     → (x % 256 ≡ a) × (x / 256 % 256 ≡ a + b) × (x / 65536 % 256 ≡ a + b + c) × (x / 16777216 ≡ a + b + c + d)
-apart a b c d x ha hb hc hd e =
+apart a b c d x h e =
+    let few : a + b + c + d < 256 = omega arith in
     let later : x / 256 ≡ (a + b) + 256 * (a + b + c) + 65536 * (a + b + c + d) = omega arith in
     let last : x / 65536 ≡ (a + b + c) + 256 * (a + b + c + d) = omega arith in
     (omega arith, rw later (omega arith), rw last (omega arith), omega arith)
 
-parts : (t : List ℕ) (tag x : ℕ) → ((f : ℕ) → get_or t f 0 ≤ 8) → x ≡ place_of (widths t tag) → Parts t tag x
+parts : (t : List ℕ) (tag x : ℕ) → x < 2 ^ 32 → x ≡ place_of (widths t tag) → Parts t tag x
 unfolding widths
-parts t tag x most e =
-    let p = apart (width t tag 0) (width t tag 1) (width t tag 2) (width t tag 3) x (most (field tag 0)) (most (field tag 1)) (most (field tag 2)) (most (field tag 3)) e in
+parts t tag x fits e =
+    let p = apart (width t tag 0) (width t tag 1) (width t tag 2) (width t tag 3) x fits e in
     record { second = p.0; third = p.1; fourth = p.2; end = p.3 }
 
 -- A tag's entry and masks: what each of the four reads asks for.
@@ -56,11 +56,11 @@ pub record Placed (t : List ℕ) (w tag x : ℕ) (ms : List ℕ) : Type 0 where
 mask_of : (ms ws : List ℕ) (i n : ℕ) → ms ≡ masks ws → get_or (masks ws) i 0 ≡ 256 ^ get_or ws i 0 - 1 → get_or ws i 0 ≡ n → get_or ms i 0 ≡ 256 ^ n - 1
 mask_of ms ws i n e at en = ap (λ (l : List ℕ). get_or l i 0) e ∙ at ∙ ap (λ (k : ℕ). 256 ^ k - 1) en
 
-pub placed : (t : List ℕ) (w tag x : ℕ) (ms : List ℕ) → ((f : ℕ) → get_or t f 0 ≤ w) → w ≤ 8 → x ≡ place_of (widths t tag) → ms ≡ masks (widths t tag)
+pub placed : (t : List ℕ) (w tag x : ℕ) (ms : List ℕ) → ((f : ℕ) → get_or t f 0 ≤ w) → x < 2 ^ 32 → x ≡ place_of (widths t tag) → ms ≡ masks (widths t tag)
     → Placed t w tag x ms
 unfolding widths
-placed t w tag x ms most small ex em =
-    let s = parts t tag x (λ f. le_trans (most f) small) ex in
+placed t w tag x ms most fits ex em =
+    let s = parts t tag x fits ex in
     let ws : List ℕ = widths t tag in
     let one : width t tag 0 ≤ w = most (field tag 0) in
     let two : width t tag 1 ≤ w = most (field tag 1) in

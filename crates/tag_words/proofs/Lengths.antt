@@ -1,9 +1,9 @@
 -- The bytes of four tags put together, over the width table t: where a function f of a tag's byte has halves whose sum is the tag's length
 -- but for c, which a test at each tag shows, f of four bytes side by side has the four lengths. Assumes nothing.
-use mathlib.Core.Path.{◌≡◌, sym, subst}
+use mathlib.Core.Path.{◌≡◌, ap, sym, subst}
 use mathlib.Core.Bool.{Bool}
 use mathlib.Core.List.{List}
-use Prim.Native.Nat.{ℕ, ◌+◌, ◌*◌, ◌≤◌, ◌<◌, zero-le}
+use Prim.Native.Nat.{ℕ, ◌+◌, ◌*◌, ◌/◌, ◌%◌, ◌≤◌, ◌<◌, zero-le}
 use native.Mathlib.Nat.{add-zero}
 use native.Mathlib.Omega.{arith}
 use lib.Dec.{T, ltb, eqb, ltb→lt, eqb→eq}
@@ -14,13 +14,13 @@ use Rattle.packed.specs.Refusals.{group_limit}
 use Rattle.packed.proofs.Bytes.{Below, le_value_head, le_value_next}
 use Rattle.packed.proofs.Ends.{Table, measured_here, measured_one, measured_step, measured_join}
 use Rattle.packed.proofs.Table.{both, both_left, both_right, every, at}
-use Rattle.tag_words.specs.Words.{word, Bytewise, halves_of, SumsHalves}
+use Rattle.tag_words.specs.Words.{word, Bytewise, halves_of, SumsHalves, lengths4}
 
 unfoldable pub right : List ℕ → (ℕ → ℕ) → ℕ → ℕ → Bool
 unfolding widths field
 right t f c tag = both (ltb (f tag) 256) (eqb (halves_of (f tag) + c) (total (widths t tag)))
 
-module _ (t : List ℕ) (is : Table t) (f : ℕ → ℕ) (c : ℕ) (test : T (every 256 (right t f c))) where
+module _ (t : List ℕ) (f : ℕ → ℕ) (c : ℕ) (test : T (every 256 (right t f c))) where
   pub small : (tag : ℕ) → tag < 256 → f tag < 256
   unfolding right
   small tag h =
@@ -31,12 +31,35 @@ module _ (t : List ℕ) (is : Table t) (f : ℕ → ℕ) (c : ℕ) (test : T (ev
   len tag h =
       eqb→eq (halves_of (f tag) + c) (total (widths t tag)) (both_right (ltb (f tag) 256) (eqb (halves_of (f tag) + c) (total (widths t tag))) (at 256 (right t f c) test tag h))
 
-  regroup : (r p q u v : ℕ) → r ≡ p + q + u + v → (p + c) + (q + c) + (u + c) + (v + c) ≡ r + 4 * c
-  regroup r p q u v e = omega arith
+  pub four_within : (x y r : ℕ) → x < 4294967296 → Bytewise f x y → SumsHalves y r → r + 4 * c ≡ lengths4 t x
+  four_within x y r fits p q =
+      let j : ℕ = x % 256 in
+      let k : ℕ = x / 256 % 256 in
+      let l : ℕ = x / 65536 % 256 in
+      let m : ℕ = x / 16777216 in
+      let hj : j < 256 = omega arith in
+      let hk : k < 256 = omega arith in
+      let hl : l < 256 = omega arith in
+      let hm : m < 256 = omega arith in
+      let side : y ≡ word (f j) (f k) (f l) (f m) = p j k l m hj hk hl hm (omega arith) in
+      omega (arith, q (f j) (f k) (f l) (f m) (small j hj) (small k hk) (small l hl) (small m hm) side, len j hj, len k hk, len l hl, len m hm)
 
-  together : (tags : List ℕ) (i x : ℕ) → i + 4 ≤ length tags → x ≡ le_value (take 4 (drop i tags))
-      → x ≡ word (get_or tags i 0) (get_or tags (i + 1) 0) (get_or tags (i + 2) 0) (get_or tags (i + 3) 0)
-  together tags i x h e =
+module _ (t : List ℕ) (is : Table t) where
+  same : (a b : ℕ) → a ≡ b → total (widths t a) ≡ total (widths t b)
+  same a b e = ap (λ (n : ℕ). total (widths t n)) e
+
+  -- the four tags that are put together are those that were read
+  pub four_measured : (tags : List ℕ) (i x r : ℕ) → Below 256 tags → i + 4 ≤ length tags → x ≡ le_value (take 4 (drop i tags)) → r ≡ lengths4 t x
+      → Measured t tags i (i + 4) r
+  four_measured tags i x r below h e er =
+      let j : ℕ = get_or tags i 0 in
+      let k : ℕ = get_or tags (i + 1) 0 in
+      let l : ℕ = get_or tags (i + 2) 0 in
+      let m : ℕ = get_or tags (i + 3) 0 in
+      let hj = below i in
+      let hk = below (i + 1) in
+      let hl = below (i + 2) in
+      let put : x ≡ word j k l m =
       omega (
         arith,
         e,
@@ -44,26 +67,15 @@ module _ (t : List ℕ) (is : Table t) (f : ℕ → ℕ) (c : ℕ) (test : T (ev
         le_value_next 2 i 1 tags (omega arith),
         le_value_next 1 i 2 tags (omega arith),
         le_value_next 0 i 3 tags (omega arith),
-      )
-
-  pub four_within : (tags : List ℕ) (i x y r : ℕ) → Below 256 tags → i + 4 ≤ length tags → x ≡ le_value (take 4 (drop i tags)) → Bytewise f x y
-      → SumsHalves y r → Measured t tags i (i + 4) (r + 4 * c)
-  four_within tags i x y r below h e p q =
-      let j : ℕ = get_or tags i 0 in
-      let k : ℕ = get_or tags (i + 1) 0 in
-      let l : ℕ = get_or tags (i + 2) 0 in
-      let m : ℕ = get_or tags (i + 3) 0 in
-      let side : y ≡ word (f j) (f k) (f l) (f m) = p j k l m (below i) (below (i + 1)) (below (i + 2)) (below (i + 3)) (together tags i x h e) in
-      let sum : r ≡ halves_of (f j) + halves_of (f k) + halves_of (f l) + halves_of (f m) =
-      q (f j) (f k) (f l) (f m) (small j (below i)) (small k (below (i + 1))) (small l (below (i + 2))) (small m (below (i + 3))) side in
-      subst (Measured t tags i (i + 4)) (regroup r (halves_of (f j)) (halves_of (f k)) (halves_of (f l)) (halves_of (f m)) sum)
+      ) in
+      subst (Measured t tags i (i + 4)) (sym er)
       (measured_step t is i 3 _
       (measured_step t is i 2 _
       (measured_step t is i 1 _
-      (measured_one t is tags i _ (omega arith) (len j (below i)))
-      (omega arith) (len k (below (i + 1))))
-      (omega arith) (len l (below (i + 2))))
-      (omega arith) (len m (below (i + 3))))
+      (measured_one t is tags i _ (omega arith) (same (x % 256) j (omega arith)))
+      (omega arith) (same (x / 256 % 256) k (omega arith)))
+      (omega arith) (same (x / 65536 % 256) l (omega arith)))
+      (omega arith) (same (x / 16777216) m (omega arith)))
 
 -- A run of so many fours from a tag on: k of them are measured.
 module _ (t : List ℕ) (is : Table t) where
@@ -91,8 +103,3 @@ module _ (t : List ℕ) (is : Table t) where
         some = omega (arith, h);
         measured = subst (λ (n : ℕ). Measured t tags from n (len + more)) e (measured_join t is b.measured m);
       }
-
-  pub by_fours_done : {tags : List ℕ} {from fours k len : ℕ} → ByFours tags from fours k len → fours ≤ k → Measured t tags from (from + 4 * fours) len
-  by_fours_done {tags} {from} {fours} {k} {len} b h =
-      let e : k ≡ fours = omega (arith, b.some, h) in
-      subst (λ (n : ℕ). Measured t tags from (from + 4 * n) len) e b.measured

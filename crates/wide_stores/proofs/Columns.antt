@@ -1,35 +1,38 @@
 -- Laws of numbers, groups and columns that are stored by whole words, over the width table t. Assumes nothing.
 use mathlib.Core.Path.{◌≡◌, refl, ap, ap₂, sym, ◌∙◌, subst}
-use mathlib.Core.List.{List, [], ◌∷◌, ◌++◌, append-nil}
+use mathlib.Core.List.{List, [], ◌∷◌, ◌++◌, map, append-nil}
 use Prim.Native.Nat.{ℕ, zero, suc, ◌+◌, ◌-◌, ◌*◌, ◌^◌, ◌≤◌, ◌<◌, zero-le}
-use native.Mathlib.Nat.{add-zero, zero-add, suc-add, le_refl, le_trans, mul-zero, mul-suc, mod-lt}
+use native.Mathlib.Nat.{add-zero, zero-add, suc-add, le_refl, mul-add, mul-suc, mul-le-mul_left}
 use native.Mathlib.Numerals.{add-one}
 use native.Mathlib.Omega.{arith}
 use lib.Dec.{T}
 use lib.ListN.{length, take, drop, get_or, set, length-append, length-take, length-drop, length-set, drop_of_length-le}
-use lib.Seq.{sets, drop-drop, take-add, take_all, length-take-le}
-use Rattle.packed.specs.Format.{le_bytes, shortest, short_width, tag_of, tags_of, bytes_of, steps}
+use lib.Seq.{sets, drop-drop, take-add, take_all}
+use Rattle.std.proofs.lemmas.List.{drop-map}
+use Rattle.packed.specs.Format.{le_bytes, short_width, tag_of, tags_of, bytes_of, steps}
 use Rattle.packed.specs.Group.{Shortest, Encodes}
 use Rattle.packed.specs.Stages.{widest_group}
 use Rattle.packed.specs.Column.{RunsEncode}
-use Rattle.packed.proofs.Bytes.{Below, below-drop, le_bytes-length}
+use Rattle.packed.proofs.Bytes.{le_bytes-length}
 use Rattle.packed.proofs.Encodes.{tags-length, bytes_append, bytes_more, encode_more, groups_most, steps-take, steps-drop}
 use Rattle.packed.proofs.Deltas.{last_of}
 use Rattle.packed.proofs.Ends.{Table, at_least}
 use Rattle.packed.proofs.Fours.{four_of, four_is, last_of_four}
 use Rattle.packed.proofs.Loops.{all_le}
 use Rattle.packed.proofs.Table.{every}
-use Rattle.packed.proofs.Widths.{top, short_width_is, shortest-field}
+use Rattle.packed.proofs.Widths.{top, short_width_is}
 use Rattle.packed.proofs.Zeros.{right_at, formulas}
-use Rattle.wide_stores.specs.Wide.{Lays, ByZeros, StoresWide, EncodesWide, excess, RunsWide, RunsWideSteps}
+use Rattle.wide_stores.specs.Wide.{Lays, FoundByZeros, StoresWide, EncodesWide, excess, RunsWide}
 use Rattle.wide_stores.proofs.Lays.{lays_none, lays_exact, lays_word, lays_join, lays_then}
 
 -- ---- one number
 
--- tables by zero bytes: right where they are at each of the w + 1 counts, which antt computes
-pub by_zeros : (t : List ℕ) (w : ℕ) (tags lens : List ℕ) → T (every (suc w) (right_at t w (λ z. get_or tags z 0) (λ z. get_or lens z 0))) → length t ≡ 4
-    → T (all_le w t) → 256 ^ w ≡ top t → ByZeros t w tags lens
-by_zeros t w tags lens test four le whole = record { picked = formulas t w w (λ z. get_or tags z 0) (λ z. get_or lens z 0) test four le whole }
+-- field and width by zero bytes: right where they are at each of the w + 1 counts, which antt computes
+pub found_by_zeros : (t : List ℕ) (w : ℕ) (f l : ℕ → ℕ) → T (every (suc w) (right_at t w f l)) → length t ≡ 4 → T (all_le w t) → 256 ^ w ≡ top t
+    → (z : ℕ) → FoundByZeros t w z (f z) (l z)
+found_by_zeros t w f l test four le whole z = record {
+  found = λ v h e. subst (λ (k : ℕ). Shortest t w v (f k) (l k)) e (formulas t w w f l test four le whole v h);
+}
 
 module _ (t : List ℕ) (is : Table t) where
   short_least : (w v tag len : ℕ) → Shortest t w v tag len → get_or t 0 0 ≤ len
@@ -84,6 +87,18 @@ module _ {t : List ℕ} {n : ℕ} where
 
 -- ---- columns
 
+-- there is room for one group more, of w bytes at most
+pub room_left : (w i to : ℕ) {written room : ℕ} → written ≤ w * i → i < to → w * to ≤ room → written + w ≤ room
+room_left w i to h le fits =
+    let more : w * (i + 1) ≤ w * to = mul-le-mul_left w (omega arith) in
+    omega (arith, mul-suc w i, ap (λ (k : ℕ). w * k) (add-one i))
+
+-- and for two runs that are behind each other
+pub room_joined : (w front to : ℕ) {a b room : ℕ} → front ≤ to → a ≤ w * front → b ≤ w * (to - front) → w * to ≤ room → a + b ≤ room
+room_joined w front to h ha hb fits =
+    let all : front + (to - front) ≡ to = omega arith in
+    omega (arith, mul-add w front (to - front), ap (λ (k : ℕ). w * k) all)
+
 excess_most : (n groups : ℕ) → excess n groups ≤ n
 excess_most n zero = zero-le
 excess_most n (suc groups) = le_refl n
@@ -94,9 +109,6 @@ excess_covered n zero covered h = zero-le
 excess_covered n (suc groups) covered h = h (omega arith)
 
 module _ (t : List ℕ) (n : ℕ) where
-  runs_none : (ds tags bytes : List ℕ) → RunsWide t n ds tags bytes 0 0 tags bytes
-  runs_none ds tags bytes = record { written = refl; most = zero-le; tags_are = refl; lays = lays_none 0 bytes 0 }
-
   -- ---- the loops: `to` groups are to be encoded, and i are
 
   pub record RunningWide (ds tags₀ bytes₀ : List ℕ) (to i written : ℕ) (tags bytes : List ℕ) : Type 0 where
@@ -106,47 +118,12 @@ module _ (t : List ℕ) (n : ℕ) where
     pub same_bytes : length bytes ≡ length bytes₀
     pub runs : RunsWide t n ds tags₀ bytes₀ i written tags bytes
 
-  pub running_wide_start : (ds tags bytes : List ℕ) (to : ℕ) → RunningWide ds tags bytes to 0 0 tags bytes
-  running_wide_start ds tags bytes to = record {
-    inside = zero-le;
-    room = zero-le;
-    same-tags = refl;
-    same_bytes = refl;
-    runs = runs_none ds tags bytes;
-  }
-
-  pub running_wide_done : {ds tags₀ bytes₀ tags bytes : List ℕ} {to i written : ℕ} → RunningWide ds tags₀ bytes₀ to i written tags bytes → to ≤ i
-      → RunsWide t n ds tags₀ bytes₀ to written tags bytes
-  running_wide_done {ds} {tags₀} {bytes₀} {tags} {bytes} {to} {i} {written} r h =
-      let e : i ≡ to = omega (arith, r.inside) in
-      subst (λ (k : ℕ). RunsWide t n ds tags₀ bytes₀ k written tags bytes) e r.runs
-
   -- of deltas: the steps that are left go on from base
   pub record RunningWideSteps (m p : ℕ) (values tags₀ bytes₀ : List ℕ) (to i written : ℕ) (base tags bytes : List ℕ) : Type 0 where
     pub running : RunningWide (steps m p values) tags₀ bytes₀ to i written tags bytes
     pub left : steps m (get_or base 3 0) (drop (4 * i) values) ≡ drop (4 * i) (steps m p values)
 
-  pub running_wide_steps_start : (m p : ℕ) (values tags bytes : List ℕ) (to : ℕ) (base : List ℕ) → get_or base 3 0 ≡ p
-      → RunningWideSteps m p values tags bytes to 0 0 base tags bytes
-  running_wide_steps_start m p values tags bytes to base e = record {
-    running = running_wide_start (steps m p values) tags bytes to;
-    left = ap (λ (k : ℕ). steps m k values) e;
-  }
-
-  pub running_wide_steps_done : {m p : ℕ} {values tags₀ bytes₀ base tags bytes : List ℕ} {to i written : ℕ}
-      → RunningWideSteps m p values tags₀ bytes₀ to i written base tags bytes → to ≤ i
-      → RunsWideSteps t n m p values tags₀ bytes₀ to written (get_or base 3 0) tags bytes
-  running_wide_steps_done {m} {p} {values} {tags₀} {bytes₀} {base} {tags} {bytes} {to} {i} {written} r h =
-      let e : i ≡ to = omega (arith, r.running.inside) in
-      record {
-        runs = running_wide_done r.running h;
-        left = subst (λ (k : ℕ). steps m (get_or base 3 0) (drop (4 * k) values) ≡ drop (4 * k) (steps m p values)) e r.left;
-      }
-
 module _ (t : List ℕ) (is : Table t) {n : ℕ} where
-  pub encodes_wide_most : {group before after : List ℕ} {at tag len : ℕ} → EncodesWide t n group before at tag len after → length group ≤ 4 → len ≤ widest_group t
-  encodes_wide_most {group} e h = omega (arith, e.written, groups_most t is 1 group h)
-
   -- one group more
   runs_more : {ds tags bytes tags' bytes' : List ℕ} {i written : ℕ} (group : List ℕ) (tag len : ℕ) (tags'' bytes'' : List ℕ)
       → RunsWide t n ds tags bytes i written tags' bytes' → group ≡ take 4 (drop (4 * i) ds) → EncodesWide t n group bytes' written tag len bytes''
@@ -246,40 +223,11 @@ module _ (t : List ℕ) (is : Table t) {n : ℕ} where
             ∙ ap (sets bytes 0) (sym all);
       }
 
-below-take : (m n : ℕ) (s : List ℕ) → 0 < m → Below m s → Below m (take n s)
-below-take m zero s pos h i = pos
-below-take m (suc n) [] pos h i = pos
-below-take m (suc n) (x ∷ s) pos h zero = h 0
-below-take m (suc n) (x ∷ s) pos h (suc i) = below-take m n s pos (λ k. h (suc k)) i
-
-pub steps-below : (m p : ℕ) (vs : List ℕ) → 0 < m → Below m (steps m p vs)
-steps-below m p [] pos i = pos
-steps-below m p (v ∷ vs) pos zero = mod-lt (v + (m - p)) pos
-steps-below m p (v ∷ vs) pos (suc i) = steps-below m v vs pos i
-
 module _ (t : List ℕ) (is : Table t) where
-  -- each number has at least the narrowest width
-  bytes_least : (vs : List ℕ) → Below (top t) vs → get_or t 0 0 * length vs ≤ length (bytes_of t vs)
-  bytes_least [] h = rw mul-zero zero-le
-  bytes_least (v ∷ vs) h =
-      let own : length (le_bytes (short_width t v) v) ≡ short_width t v = le_bytes-length (short_width t v) v in
-      let least : get_or t 0 0 ≤ get_or t (shortest t v) 0 =
-      at_least (get_or t 0 0) t is.first (shortest t v) (omega (arith, shortest-field t is.four v (h 0), is.four)) in
-      omega (arith, short_width_is t v, length-append (le_bytes (short_width t v) v) (bytes_of t vs), bytes_least vs (λ i. h (suc i)), mul-suc (get_or t 0 0) (length vs))
-
   pub exact_most : {ds tags bytes tags' bytes' : List ℕ} {groups written : ℕ} → RunsEncode t ds tags bytes groups written tags' bytes' → written ≤ widest_group t * groups
   exact_most {ds} {tags} {bytes} {tags'} {bytes'} {groups} {written} r =
       subst (λ (k : ℕ). k ≤ widest_group t * groups) (sym r.written)
       (groups_most t is groups (take (4 * groups) ds) (omega (arith, length-take (4 * groups) ds)))
-
-  -- so an exact run has at least so many
-  pub exact_least : {ds tags bytes tags' bytes' : List ℕ} {rest written : ℕ} → RunsEncode t ds tags bytes rest written tags' bytes' → 0 < top t → Below (top t) ds
-      → 4 * rest ≤ length ds → get_or t 0 0 * (4 * rest) ≤ written
-  exact_least {ds} {tags} {bytes} {tags'} {bytes'} {rest} {written} r pos h le =
-      let long : length (take (4 * rest) ds) ≡ 4 * rest = length-take-le (4 * rest) ds le in
-      subst (λ (k : ℕ). get_or t 0 0 * (4 * rest) ≤ k) (sym r.written)
-      (subst (λ (k : ℕ). get_or t 0 0 * k ≤ length (bytes_of t (take (4 * rest) ds))) long
-      (bytes_least (take (4 * rest) ds) (below-take (top t) (4 * rest) ds pos h)))
 
 -- ---- parts: what is behind a place, and a list with that put back
 
@@ -291,6 +239,10 @@ back_behind a l ys = take a l ++ (ys ++ drop (length l - a) (drop a l))
 
 pub behind_is : (a : ℕ) (l : List ℕ) → behind a l ≡ drop a l
 behind_is a l = take_all (length l - a) (drop a l) (omega (arith, length-drop a l))
+
+-- what is behind a place in a list of elements, as numbers
+pub map_behind : {E : Type 0} (f : E → ℕ) (a : ℕ) (l : List E) → map f (take (length l - a) (drop a l)) ≡ drop a (map f l)
+map_behind f a l = ap (map f) (take_all (length l - a) (drop a l) (omega (arith, length-drop a l))) ∙ sym (drop-map f a l)
 
 back_is : (a : ℕ) (l ys : List ℕ) → back_behind a l ys ≡ take a l ++ ys
 back_is a l ys =
@@ -310,18 +262,3 @@ module _ (t : List ℕ) (is : Table t) {n : ℕ} where
       (wide_then_exact t is (to - front) written₂ tags₂ bytes₂ f
       (rw (e, behind_is front tags₁, behind_is written bytes₁) at s) covered
       (subst (λ (k : ℕ). k ≤ length tags) (sym all) ht) (subst (λ (k : ℕ). widest_group t * k ≤ length bytes) (sym all) hb)))
-
-  -- the same where the rest is the last few groups, of which even the narrowest cover it
-  pub wide_then_last : {ds tags bytes tags₁ bytes₁ : List ℕ} {front written : ℕ} (to last written₂ : ℕ) (ds₂ tags₂ bytes₂ : List ℕ)
-      → front ≡ to - last → n ≤ get_or t 0 0 * (4 * last) → 0 < top t → Below (top t) ds → 4 * to ≤ length ds
-      → to ≤ length tags → widest_group t * to ≤ length bytes → RunsWide t n ds tags bytes front written tags₁ bytes₁ → ds₂ ≡ drop (4 * front) ds
-      → RunsEncode t ds₂ (behind front tags₁) (behind written bytes₁) (to - front) written₂ tags₂ bytes₂
-      → RunsEncode t ds tags bytes to (written + written₂) (back_behind front tags₁ tags₂) (back_behind written bytes₁ bytes₂)
-  wide_then_last {ds} {tags} {bytes} {tags₁} {bytes₁} {front} {written} to last written₂ ds₂ tags₂ bytes₂ ef le pos h hv ht hb f e s =
-      let below : Below (top t) ds₂ = subst (Below (top t)) (sym e) (below-drop (top t) (4 * front) ds h) in
-      let long : length ds₂ ≡ length ds - 4 * front = ap length e ∙ length-drop (4 * front) ds in
-      let least : get_or t 0 0 * (4 * (to - front)) ≤ written₂ = exact_least t is s pos below (omega arith) in
-      let covered : 0 < front → n ≤ written₂ = λ some.
-      let rest : to - front ≡ last = omega arith in
-      le_trans le (subst (λ (k : ℕ). get_or t 0 0 * (4 * k) ≤ written₂) rest least) in
-      wide_then_rest to written₂ ds₂ tags₂ bytes₂ (omega arith) ht hb f e s (excess_covered n front written₂ covered)

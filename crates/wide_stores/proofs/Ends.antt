@@ -1,61 +1,60 @@
 -- Laws of the search for the end of a run by whole words, over the width table t: from behind, until the groups passed have n bytes. Assumes
 -- nothing.
 use mathlib.Core.Path.{◌≡◌, refl, ap, sym, ◌∙◌, subst}
-use mathlib.Core.List.{List, [], ◌∷◌, ◌++◌, map}
-use Prim.Native.Nat.{ℕ, zero, suc, ◌+◌, ◌-◌, ◌*◌, ◌^◌, ◌≤◌, ◌<◌, zero-le}
-use native.Mathlib.Nat.{le_refl, le_trans}
+use mathlib.Core.Bool.{Bool}
+use mathlib.Core.List.{List, [], ◌∷◌, ◌++◌}
+use Prim.Native.Nat.{ℕ, zero, suc, ◌+◌, ◌-◌, ◌*◌, ◌^◌, ◌≤◌, ◌<◌}
 use native.Mathlib.Omega.{arith}
 use lib.ListN.{length, take, drop, get_or, length-append}
-use lib.Seq.{drop-drop}
-use Rattle.packed.specs.Format.{t0124, total, short_width, bytes_of, steps}
+use lib.Seq.{sets, drop-drop}
+use borrow.Author.Tests.{lt-ltb}
+use Rattle.packed.specs.Format.{pick, total, widths, shortest, tag_of, bytes_of, steps}
 use Rattle.packed.specs.Group.{Encodes}
 use Rattle.packed.specs.Stages.{widest_group}
 use Rattle.packed.specs.Column.{RunsEncode}
+use Rattle.packed.proofs.Bytes.{Below, byte_power_pos}
 use Rattle.packed.proofs.Deltas.{last_of}
 use Rattle.packed.proofs.Encodes.{steps-take, steps-drop}
 use Rattle.packed.proofs.Ends.{Table}
 use Rattle.packed.proofs.Fours.{four_of, four_is}
-use Rattle.packed.proofs.Widths.{top, short_width_holds, bytes_length}
+use Rattle.packed.proofs.Widths.{top, widths_of_tag, bytes_length}
 use Rattle.wide_stores.specs.Wide.{excess, RunsWide, Covers}
 use Rattle.wide_stores.proofs.Columns.{excess_covered, bytes_join, behind, back_behind, wide_then_rest}
 
--- a number that is not 0 has a byte or more
-pub some_width : (t : List ℕ) → length t ≡ 4 → (v : ℕ) → v < top t → 0 < v → 1 ≤ short_width t v
-some_width t four v h pos = go (short_width t v) (short_width_holds t four v h)
+-- the widths of a group's tag are all its bytes
+pub tag_total : (t group : List ℕ) → length t ≡ 4 → length group ≡ 4 → Below (top t) group → total (widths t (tag_of t group)) ≡ length (bytes_of t group)
+tag_total t group is four h =
+    let same : group ≡ four_of group = four_is group four in
+    let below : Below (top t) (four_of group) = subst (Below (top t)) same h in
+    let all : total (widths t (tag_of t (four_of group))) ≡ length (bytes_of t (four_of group)) =
+    ap total (widths_of_tag t is (get_or group 0 0) (get_or group 1 0) (get_or group 2 0) (get_or group 3 0) below) ∙ sym (bytes_length t is (four_of group)) in
+    subst (λ (l : List ℕ). total (widths t (tag_of t l)) ≡ length (bytes_of t l)) (sym same) all
+
+-- zeros have the first field
+zero_first : (t : List ℕ) → shortest t 0 ≡ 0
+zero_first [] = refl
+zero_first (w ∷ ws) = ap (λ (b : Bool). pick b 0 (suc (shortest ws 0))) (lt-ltb 0 (256 ^ w) (byte_power_pos w))
+
+pub zeros_tag : (t group : List ℕ) → group ≡ 0 ∷ 0 ∷ 0 ∷ 0 ∷ [] → 0 ≡ tag_of t group
+zeros_tag t group e = rw (e, zero_first t) refl
+
+-- a group of no bytes leaves all as it was
+pub none_written : (t group l : List ℕ) (at tag len : ℕ) → tag ≡ tag_of t group → len ≡ length (bytes_of t group) → len ≡ 0 → Encodes t group l at tag 0 l
+none_written t group l at tag len et el e = go (bytes_of t group) refl
   where
-    go : (w : ℕ) → v < 256 ^ w → 1 ≤ w
-    go zero hw = absurd (omega arith)
-    go (suc w) hw = omega arith
+    go : (bytes : List ℕ) → bytes_of t group ≡ bytes → Encodes t group l at tag 0 l
+    go [] eb = record { tag = et; written = ap length (sym eb); output = ap (sets l at) (sym eb) }
+    go (b ∷ bytes) eb = absurd (omega (arith, ap length eb))
 
--- the bytes of four numbers, of each of which so many are there
-pub four_least : (t group : List ℕ) (l₀ l₁ l₂ l₃ : ℕ) → length t ≡ 4 → length group ≡ 4
-    → l₀ ≤ short_width t (get_or group 0 0) → l₁ ≤ short_width t (get_or group 1 0) → l₂ ≤ short_width t (get_or group 2 0) → l₃ ≤ short_width t (get_or group 3 0)
-    → l₀ + l₁ + l₂ + l₃ ≤ length (bytes_of t group)
-four_least t group l₀ l₁ l₂ l₃ is four h₀ h₁ h₂ h₃ =
-    let all : length (bytes_of t (four_of group)) ≡ total (map (short_width t) (four_of group)) = bytes_length t is (four_of group) in
-    let same : length (bytes_of t (four_of group)) ≡ length (bytes_of t group) = ap (λ (l : List ℕ). length (bytes_of t l)) (sym (four_is group four)) in
-    omega arith
-
-pub four_zeros : (l : List ℕ) → length l ≡ 4 → get_or l 0 0 ≡ 0 → get_or l 1 0 ≡ 0 → get_or l 2 0 ≡ 0 → get_or l 3 0 ≡ 0 → l ≡ 0 ∷ 0 ∷ 0 ∷ 0 ∷ []
-four_zeros l four e₀ e₁ e₂ e₃ = four_is l four ∙ rw (e₀, e₁, e₂, e₃)
-
--- four zeros of coder 0124 have none
-pub zeros_have_none : (group l : List ℕ) (at : ℕ) → group ≡ 0 ∷ 0 ∷ 0 ∷ 0 ∷ [] → Encodes t0124 group l at 0 0 l
-unfolding short_width
-zeros_have_none group l at e = rw e (record { tag = refl; written = refl; output = refl })
-
-module _ (t ds : List ℕ) (groups : ℕ) where
-  -- the groups from `front` on have at least so many bytes
-  pub record Searching (front covered : ℕ) : Type 0 where
+module _ (t ds : List ℕ) (n groups : ℕ) where
+  -- of n bytes, the groups from `front` on have all but so many
+  pub record Covering (front uncovered : ℕ) : Type 0 where
     pub inside : front ≤ groups
-    pub there : covered ≤ length (bytes_of t (take (4 * (groups - front)) (drop (4 * front) ds)))
+    pub there : n ≤ uncovered + length (bytes_of t (take (4 * (groups - front)) (drop (4 * front) ds)))
 
-  pub searching_start : Searching groups 0
-  searching_start = record { inside = le_refl groups; there = zero-le }
-
-  pub searching_next : {front covered : ℕ} (back len : ℕ) (group : List ℕ) → Searching front covered → front ≡ back + 1
-      → group ≡ take 4 (drop (4 * back) ds) → len ≤ length (bytes_of t group) → Searching back (covered + len)
-  searching_next {front} {covered} back len group s e eg el =
+  pub covering_next : {front uncovered : ℕ} (back len left : ℕ) (group : List ℕ) → Covering front uncovered → front ≡ back + 1
+      → group ≡ take 4 (drop (4 * back) ds) → len ≡ length (bytes_of t group) → left ≡ uncovered - len → Covering back left
+  covering_next {front} {uncovered} back len left group s e eg el ev =
       let l : List ℕ = drop (4 * back) ds in
       let more : groups - back ≡ 1 + (groups - front) = omega (arith, s.inside) in
       let place : 4 * back + 4 ≡ 4 * front = omega arith in
@@ -70,16 +69,10 @@ module _ (t ds : List ℕ) (groups : ℕ) where
         there = omega (arith, ap length all, length-append (bytes_of t group) rest, s.there);
       }
 
-  pub searching_found : {n front covered : ℕ} → Searching front covered → n ≤ covered → Covers t n ds groups front
-  searching_found {n} {front} {covered} s h = record {
+  pub covering_found : {front uncovered : ℕ} → Covering front uncovered → uncovered ≡ 0 → Covers t n ds groups front
+  covering_found {front} s e = record {
     inside = s.inside;
-    covered = excess_covered n front _ (λ some. le_trans h s.there);
-  }
-
-  pub searching_none : {n front covered : ℕ} → Searching front covered → front ≤ 0 → Covers t n ds groups front
-  searching_none {n} {front} {covered} s h = record {
-    inside = s.inside;
-    covered = excess_covered n front _ (λ some. absurd (omega arith));
+    covered = excess_covered n front _ (λ some. omega (arith, s.there));
   }
 
 -- the one before the place `at`, from p on
@@ -99,6 +92,14 @@ steps_from m p (suc at) vs pos h =
 pub steps_of_group : (m before at : ℕ) (values ds group : List ℕ) → steps m before (drop at values) ≡ drop at ds → group ≡ take 4 (drop at values)
     → steps m before group ≡ take 4 (drop at ds)
 steps_of_group m before at values ds group e eg = ap (steps m before) eg ∙ sym (steps-take m before 4 (drop at values)) ∙ ap (take 4) e
+
+-- the search among steps: `before` is the value before the group
+pub covering_next_steps : (t vs : List ℕ) (m p n groups : ℕ) {front uncovered : ℕ} (before back len left : ℕ) (group ds : List ℕ)
+    → Covering t (steps m p vs) n groups front uncovered → front ≡ back + 1 → steps m before (drop (4 * back) vs) ≡ drop (4 * back) (steps m p vs)
+    → group ≡ take 4 (drop (4 * back) vs) → ds ≡ steps m before group → len ≡ length (bytes_of t ds) → left ≡ uncovered - len
+    → Covering t (steps m p vs) n groups back left
+covering_next_steps t vs m p n groups before back len left group ds s e eb eg ed el ev =
+    covering_next t (steps m p vs) n groups back len left ds s e (ed ∙ steps_of_group m before (4 * back) vs (steps m p vs) group eb eg) el ev
 
 -- the first groups by whole words and the rest exactly, with the end that was found
 pub wide_then_covered : (t : List ℕ) (is : Table t) {n : ℕ} {ds tags bytes tags₁ bytes₁ : List ℕ} {front written : ℕ} (to written₂ : ℕ) (ds₂ tags₂ bytes₂ : List ℕ)

@@ -13,9 +13,13 @@ pub record Lays (n : ℕ) (before : List ℕ) (at : ℕ) (own after : List ℕ) 
   pub front : take (at + length own) after ≡ take at before ++ own
   pub kept : drop (at + length own + n) after ≡ drop (at + length own + n) before
 
--- Tables by the count of zero bytes in front of a number of w bytes: its shortest field and its width.
-pub record ByZeros (t : List ℕ) (w : ℕ) (tags lens : List ℕ) : Type 0 where
-  pub picked : (v : ℕ) → v < 256 ^ w → Shortest t w v (get_or tags (count_leading_zeros (8 * w) v / 8) 0) (get_or lens (count_leading_zeros (8 * w) v / 8) 0)
+-- What the count of zero bytes in front of a number of w bytes tells: its shortest field and its width.
+pub record FoundByZeros (t : List ℕ) (w zeros r_tag r_len : ℕ) : Type 0 where
+  pub found : (v : ℕ) → v < 256 ^ w → count_leading_zeros (8 * w) v / 8 ≡ zeros → Shortest t w v r_tag r_len
+
+-- What a whole word leaves behind its number at most: what the widest width has above the narrowest.
+abbrev pub left_behind : List ℕ → ℕ
+left_behind t = get_or t 3 0 - get_or t 0 0
 
 -- One number of w bytes: its shortest field and width, and that many bytes.
 pub record StoresWide (t : List ℕ) (w n value : ℕ) (before : List ℕ) (at r_tag r_len : ℕ) (after : List ℕ) : Type 0 where

@@ -1,6 +1,9 @@
--- `chowder_decode_1248` hands on what `coder1248::decode` promises, its answer as numbers.
+-- `chowder_decode_1248` hands on what `coder::decode` promises, its answer as numbers.
+use Rattle.std.proofs.Common.{w64, rules}
+use Rattle.elem.proofs.Elems.{fits_same}
 use Rattle.chowderyard.proofs.Boundary.{handed_decoded}
 use Rattle.chowderyard.proofs.calls1248.chowder_decode_1248.Goals as goal
 
 pub returns : goal.returns
-returns c = handed_decoded c.of_counted.ensures c.decode.ensures
+returns c =
+    handed_decoded c.into.ensures (rw (fits_same w64 c.args.values.now (λ i. search rules), fits_same w64 c.decode.new.values c.type_inv.values) at c.decode.ensures)

@@ -1,6 +1,12 @@
--- `chowder_encode_deltas_1248` hands on what `coder1248::encode_deltas` promises, its answer as numbers.
+-- `chowder_encode_deltas_1248` hands on what `coder::encode_deltas` promises, its answer as numbers.
+use Rattle.std.proofs.Common.{◌≡◌, ◌%◌, w64, rules}
+use native.Mathlib.Nat.{mod-eq_of_lt}
+use Rattle.packed.specs.Format.{m64}
+use Rattle.elem.proofs.Elems.{fits_same}
 use Rattle.chowderyard.proofs.Boundary.{handed_encoded}
 use Rattle.chowderyard.proofs.calls1248.chowder_encode_deltas_1248.Goals as goal
 
 pub returns : goal.returns
-returns c = handed_encoded c.of_counted.ensures c.encode_deltas.ensures
+returns c =
+    let same : c.args.start % m64 ≡ c.args.start = mod-eq_of_lt (search rules) in
+    handed_encoded c.into.ensures (rw (same, fits_same w64 c.args.values.now c.type_inv.values) at c.encode_deltas.ensures)

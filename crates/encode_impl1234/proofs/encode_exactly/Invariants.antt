@@ -1,6 +1,0 @@
-use Rattle.packed.specs.Format.{t1234}
-use Rattle.packed.proofs.Encodes.{RunningEncode}
-use Rattle.encode_impl1234.proofs.encode_exactly.Given as goal
-
-abbrev pub invariant-loop-i : goal.invariant-loop-i
-invariant-loop-i l = RunningEncode t1234 l.values l.initial.tags l.initial.data l.groups l.i l.written l.tags l.«data»

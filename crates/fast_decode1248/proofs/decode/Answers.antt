@@ -1,6 +1,0 @@
--- `decode` meets its contract: the numbers at the tag's place, by its masks.
-use Rattle.std.proofs.Common.{rules}
-use Rattle.fast_decode1248.proofs.decode.Goals as goal
-
-pub numbers-requires : goal.numbers-requires
-numbers-requires c = record { at_in_bounds = search rules; entries = (c.requires.places.0 c.args.tag (search rules), c.half_masks.ensures) }

@@ -1,0 +1,17 @@
+// Coder 0124: the tag values by the count of zero bytes in front.
+use crate::FastEncode;
+use coding_descriptor::{Coder0124, TagValue};
+
+static BY_ZEROS: [TagValue; 5] = [
+    TagValue { tag: 3, len: 4 },
+    TagValue { tag: 3, len: 4 },
+    TagValue { tag: 2, len: 2 },
+    TagValue { tag: 1, len: 1 },
+    TagValue { tag: 0, len: 0 },
+];
+
+impl FastEncode for Coder0124 {
+    fn by_zeros(zeros: usize) -> TagValue {
+        BY_ZEROS[zeros]
+    }
+}

@@ -1,0 +1,17 @@
+// Coder 1234: the tag values by the count of zero bytes in front.
+use crate::FastEncode;
+use coding_descriptor::{Coder1234, TagValue};
+
+static BY_ZEROS: [TagValue; 5] = [
+    TagValue { tag: 3, len: 4 },
+    TagValue { tag: 2, len: 3 },
+    TagValue { tag: 1, len: 2 },
+    TagValue { tag: 0, len: 1 },
+    TagValue { tag: 0, len: 1 },
+];
+
+impl FastEncode for Coder1234 {
+    fn by_zeros(zeros: usize) -> TagValue {
+        BY_ZEROS[zeros]
+    }
+}

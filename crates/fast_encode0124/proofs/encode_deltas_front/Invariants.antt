@@ -1,6 +1,0 @@
-use Rattle.packed.specs.Format.{t0124, m32}
-use Rattle.wide_stores.proofs.Columns.{RunningWideSteps}
-use Rattle.fast_encode0124.proofs.encode_deltas_front.Given as goal
-
-abbrev pub invariant-loop-i : goal.invariant-loop-i
-invariant-loop-i l = RunningWideSteps t0124 4 m32 l.fn.initial l.values l.initial.tags l.initial.data l.groups l.i l.written l.base l.tags l.«data»

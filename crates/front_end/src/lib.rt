@@ -1,0 +1,91 @@
+// How many groups of a column may be encoded by whole words. The words leave bytes behind the last number that the groups behind it have to
+// cover, and a group can have none, as zeros of coder 0124: the end is looked for from behind.
+#![tactic(auto)]
+
+ghost use Rattle.std.specs.Prelude.{true, [], ◌∷◌, ◌≡◌, map, ◌*◌, ◌≤◌, length, drop};
+ghost use Rattle.packed.specs.Format.{tag_of, bytes_of, steps};
+ghost use Rattle.wide_stores.specs.Wide.{left_behind, Covers};
+
+use coding_descriptor::{CodingDescriptor, data_len};
+use elem::Elem;
+use fast_encode::{FastEncode, load_group, tag_value};
+
+// Four zeros, of which a column may have many.
+fn is_zero<E: Elem>(group: [E; 4]) -> bool
+    ensures { result ≡ true → map E.number group ≡ 0 ∷ 0 ∷ 0 ∷ 0 ∷ [] }
+{
+    group[0].is_zero() && group[1].is_zero() && group[2].is_zero() && group[3].is_zero()
+}
+
+// The one-byte tag of a group. Zeros are passed quickly.
+pub fn group_tag<D: FastEncode>(group: [D::Elem; 4]) -> u8
+    ensures { result ≡ tag_of D.table (map D.Elem.number group) }
+{
+    if is_zero(group) {
+        return 0;
+    }
+    let first = tag_value::<D>(group[0]).tag;
+    let second = tag_value::<D>(group[1]).tag;
+    let third = tag_value::<D>(group[2]).tag;
+    let fourth = tag_value::<D>(group[3]).tag;
+    first + 4 * (second + 4 * (third + 4 * fourth))
+}
+
+// How many bytes a group has.
+pub fn group_len<D: FastEncode>(group: [D::Elem; 4]) -> usize
+    ensures { result ≡ length (bytes_of D.table (map D.Elem.number group)) }
+{
+    data_len::<D>(group_tag::<D>(group))
+}
+
+// What whole words leave behind at most.
+fn to_cover<D: CodingDescriptor>() -> usize
+    ensures { result ≡ left_behind D.table }
+{
+    D::tag_len()[3] - D::tag_len()[0]
+}
+
+// The groups behind the answer have as many bytes as the words leave or more, or it is 0. Kept apart: put into its caller, it would leave too
+// few registers to the loop over the groups in front.
+#[inline(never)]
+pub fn front_end<D: FastEncode>(values: &[D::Elem], groups: usize) -> usize
+    requires { 4 * groups ≤ length values.now }
+    ensures { Covers D.table (left_behind D.table) (map D.Elem.number values.now) groups result }
+{
+    let mut uncovered = to_cover::<D>();
+    for front in (0..groups).rev() {
+        let group = load_group(values, 4 * front);
+        uncovered = uncovered.saturating_sub(group_len::<D>(group));
+        if uncovered == 0 {
+            return front;
+        }
+    }
+    0
+}
+
+// The value before the one at a place: the one that its step goes on from.
+fn value_before<E: Elem>(initial: E, values: &[E], at: usize) -> E
+    requires { at ≤ length values.now }
+    ensures { steps E.modulus (E.number result) (drop at (map E.number values.now)) ≡ drop at (steps E.modulus (E.number initial) (map E.number values.now)) }
+{
+    if at == 0 { initial } else { values[at - 1] }
+}
+
+// The same of the deltas from initial on.
+#[inline(never)]
+pub fn deltas_front_end<D: FastEncode>(initial: D::Elem, values: &[D::Elem], groups: usize) -> usize
+    requires { 4 * groups ≤ length values.now }
+    ensures { Covers D.table (left_behind D.table) (steps D.Elem.modulus (D.Elem.number initial) (map D.Elem.number values.now)) groups result }
+{
+    let mut uncovered = to_cover::<D>();
+    for front in (0..groups).rev() {
+        let before = value_before(initial, values, 4 * front);
+        let group = load_group(values, 4 * front);
+        let steps = raw_group::deltas([before; 4], group);
+        uncovered = uncovered.saturating_sub(group_len::<D>(steps));
+        if uncovered == 0 {
+            return front;
+        }
+    }
+    0
+}

@@ -1,0 +1,9 @@
+use Rattle.std.proofs.Common.{map}
+use Rattle.packed.proofs.Loops.{Encoding}
+use Rattle.raw_group.proofs.encode.Given as goal
+
+abbrev pub invariant-loop-i : goal.invariant-loop-i
+invariant-loop-i g l =
+    let d = g.D.CodingDescriptor in
+    let e = g.D.Elem.Elem in
+    Encoding d.table (map e.number l.group) l.initial.output l.at e.SIZE l.i l.tag l.written l.output

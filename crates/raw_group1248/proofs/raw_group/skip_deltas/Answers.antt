@@ -1,9 +1,0 @@
--- `skip_deltas` meets its contract: the sum of what `decode` gives.
-use Rattle.std.proofs.Common.{ap, ◌∙◌}
-use Rattle.packed.specs.Format.{m64, wrapping_sum}
-use Rattle.raw_group1248.proofs.raw_group.skip_deltas.Goals as goal
-
-pub returns : goal.returns
-returns c =
-    let d = c.decode-d.ensures in
-    record { read = d.read; sum = c.sum.ensures ∙ ap (wrapping_sum m64) d.group }

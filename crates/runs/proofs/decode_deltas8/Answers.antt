@@ -1,0 +1,30 @@
+-- `decode_deltas8` meets its contract: by the laws of its loop.
+use Rattle.std.proofs.Common.{◌+◌, get_or, arith, map, rules}
+use Rattle.std.proofs.lemmas.List.{length-map}
+use Rattle.packed.proofs.Ends.{group_most}
+use Rattle.packed.proofs.Runs.{window, running_deltas_from, running_deltas_step}
+use Rattle.elem.proofs.Elems.{below_map, modulus_pos}
+use Rattle.runs.proofs.decode_deltas8.Goals as goal
+
+pub loop-k-init : goal.loop-k-init
+loop-k-init g c =
+    let e = g.D.Elem.Elem in
+    let own = g.met.D.Elem.Elem in
+    let base = below_map e.number e.modulus (modulus_pos e.modulus e.SIZE own.wraps) own.below c.args.base in
+    running_deltas_from g.D.CodingDescriptor.table c.requires.windows (rw length-map c.requires.i_in_bounds) (base 3)
+
+pub overflow_add-read : goal.overflow_add-read
+overflow_add-read g c =
+    let t = g.D.CodingDescriptor.table in
+    omega (
+      arith,
+      window t c.loop-k.invariant.way (omega arith),
+      c.decode_deltas-len.ensures.read,
+      group_most t g.met.D.CodingDescriptor.is_table (get_or c.args.tags.now (c.args.i + c.loop-k.k) 0),
+    )
+
+pub loop-k-preserved : goal.loop-k-preserved
+loop-k-preserved g c =
+    let e = g.D.Elem.Elem in
+    running_deltas_step g.D.CodingDescriptor.table c.args.i c.loop-k.k _ (map e.number c.decode_deltas-len.result.1) _ c.loop-k.invariant (omega arith)
+    (rw length-map (search rules)) c.decode_deltas-len.ensures c.store_group.ensures

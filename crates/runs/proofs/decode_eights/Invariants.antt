@@ -1,0 +1,12 @@
+use Rattle.std.proofs.Common.{◌≡◌, ◌-◌, ◌%◌, map}
+use Rattle.packed.proofs.Runs.{Running}
+use Rattle.runs.proofs.decode_eights.Given as goal
+
+abbrev pub invariant-loop-i : goal.invariant-loop-i
+invariant-loop-i g l =
+    let d = g.D.CodingDescriptor in
+    let e = g.D.Elem.Elem in
+    Running d.table l.tags l.«data» (map e.number l.initial.values) 0 l.to 0 l.i l.read (map e.number l.values) × (l.i % 8 ≡ 0)
+
+abbrev pub decreases-loop-i : goal.decreases-loop-i
+decreases-loop-i g l = l.to - l.i

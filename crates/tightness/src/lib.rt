@@ -1,0 +1,44 @@
+// The tightness check, below its refusals. It is ours: the Rust has none.
+#![tactic(auto)]
+
+ghost use Rattle.std.specs.Prelude.{◌≡◌, ◌+◌, ◌≤◌, length, take, drop};
+ghost use Rattle.packed.specs.Format.{le_value, data_len};
+ghost use Rattle.packed.specs.Calls.{tightness_of};
+ghost use Rattle.answers.specs.Meaning.{place_of};
+
+use answers::Place;
+use coding_descriptor::CodingDescriptor;
+use elem::Elem;
+
+// The number of len bytes from at on, low byte first, those bytes alone: the last number may end with the data.
+fn stored_number<E: Elem>(data: &[u8], at: usize, len: usize) -> E
+    requires { (at + len ≤ length «data».now) × (len ≤ E.SIZE) }
+    ensures { E.number result ≡ le_value (take len (drop at «data».now)) }
+{
+    let mut value = E::zero();
+    for k in (0..len).rev() {
+        value = value.with_low_byte(data[at + k]);
+    }
+    value
+}
+
+// The place of the first stored number whose width is not the shortest.
+pub fn first_loose<D: CodingDescriptor>(tags: &[u8], data: &[u8]) -> Option<Place>
+    requires { data_len D.table tags.now ≤ length «data».now }
+    ensures { place_of result ≡ tightness_of D.table tags.now «data».now }
+{
+    let mut at = 0usize;
+    for (group, tag) in tags.iter().enumerate() {
+        let mut rest = *tag;
+        for position in 0..4 {
+            let len = D::tag_len()[(rest % 4) as usize];
+            let value = stored_number(data, at, len);
+            if len != D::tag_value(value).len {
+                return Some(Place { group, position });
+            }
+            at += len;
+            rest = rest / 4;
+        }
+    }
+    None
+}
