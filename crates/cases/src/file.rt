@@ -11,6 +11,7 @@ fn fill<F: Read>(file: &mut F, buf: &mut [u8]) -> usize
     ensures front { result ≡ length (take result buf.new) }
 {
     let mut done = 0;
+    // How far a read goes is known when it has gone, so no range says how often to read.
     while done < buf.len() {
         let n = file.read(&mut buf[done..]).unwrap_or(0);
         if n == 0 {

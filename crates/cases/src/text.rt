@@ -1,7 +1,7 @@
 // The numbers in a text.
 ghost use Rattle.std.specs.Prelude.{◌<◌};
 
-// The value of a digit, 0 to 9 and A to F.
+// The value of a digit, 0 to 9 and A to F: `to_digit` would take small letters too.
 fn digit(c: u8) -> u8
     ensures { result < 16 }
 {

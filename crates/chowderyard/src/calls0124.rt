@@ -1,4 +1,5 @@
 // The calls of `Coder0124` under plain names. Each answers on any input: nothing is asked of a caller that proves nothing.
+// The three coders have such a file each, since C has no generic functions.
 ghost use Rattle.std.specs.Prelude.{◌≡◌};
 ghost use Rattle.packed.specs.Format.{t0124, m32};
 ghost use Rattle.packed.specs.Calls.{encoded, encoding, encoding_deltas, decoded, decoding, decoding_deltas, skipping, measuring, testing};

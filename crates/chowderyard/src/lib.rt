@@ -70,7 +70,7 @@ impl<E: Elem> From<Result<Skipped<E>, Refusal>> for Answer {
     }
 }
 
-// A position is one of four, so it fits a byte.
+// A position is one of four, so it fits a byte: that is asked, which `From` cannot do.
 fn of_tightness(answer: Result<Option<Place>, Refusal>) -> TightnessAnswer
     requires { position_of (tested answer) < 4 }
     ensures { result ≡ told (tested answer) }

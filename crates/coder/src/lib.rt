@@ -32,7 +32,7 @@ pub fn encode<C: Coder>(
     ensures { encoded (counted result) tags.new «data».new ≡ encoding C.table (map C.Elem.number values.now) tags.old «data».old }
 {
     answers::encode_verdict(values.len(), tags.len(), data.len(), 4 * C::Elem::SIZE)?;
-    Ok(encode_impl::encode_groups::<C>(values, values.len() / 4, tags, data))
+    Ok(encode_impl::encode_groups::<C>(values, tags, data))
 }
 
 // The same, with values interpreted as deltas starting from initial.
@@ -45,7 +45,7 @@ pub fn encode_deltas<C: Coder>(
     ensures { encoded (counted result) tags.new «data».new ≡ encoding_deltas C.table C.Elem.modulus (C.Elem.number initial) (map C.Elem.number values.now) tags.old «data».old }
 {
     answers::encode_verdict(values.len(), tags.len(), data.len(), 4 * C::Elem::SIZE)?;
-    Ok(encode_impl::encode_deltas_groups::<C>(initial, values, values.len() / 4, tags, data))
+    Ok(encode_impl::encode_deltas_groups::<C>(initial, values, tags, data))
 }
 
 // Where the three stages end, if the data is there: what is left to refuse where the counts are right.

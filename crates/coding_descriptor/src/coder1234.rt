@@ -25,6 +25,7 @@ static LENGTH_TABLE: [u32; 256] = [
     10, 11, 12, 13, 11, 12, 13, 14, 12, 13, 14, 15, 13, 14, 15, 16,
 ];
 
+// Each coder has tables of its own, so each gives them out itself.
 impl CodingDescriptor for Coder1234 {
     type Elem = u32;
 

@@ -1,4 +1,4 @@
-// A number of 32 bits as an element.
+// A number of 32 bits as an element. `elem64` says the same of 64: an `impl` that a macro writes is not to be had here.
 ghost use Rattle.std.specs.Prelude.{◌%◌};
 ghost use Rattle.std.proofs.Common.{rules};
 ghost use Rattle.packed.specs.Format.{m32};
@@ -35,6 +35,7 @@ impl Elem for u32 {
         self & mask
     }
 
+    // `to_le_bytes` would make an array of all bytes for this one.
     fn byte(self, i: usize) -> u8 {
         ((self >> (8 * i)) % 256) as u8
     }

@@ -14,6 +14,7 @@ static BY_ZEROS: [TagValue; 9] = [
     TagValue { tag: 0, len: 1 },
 ];
 
+// Each coder has a table of its own, so each gives it out itself.
 impl FastEncode for Coder1248 {
     fn by_zeros(zeros: usize) -> TagValue {
         BY_ZEROS[zeros]

@@ -6,16 +6,16 @@
 mod coder0124;
 mod coder1234;
 mod coder1248;
+mod sink;
 
-ghost use Rattle.std.specs.Prelude.{◌≡◌, map, ◌+◌, ◌*◌, ◌≤◌, length, take, drop, get_or};
+ghost use Rattle.std.specs.Prelude.{map, ◌+◌, ◌*◌, ◌/◌, ◌≤◌, length};
 ghost use Rattle.packed.specs.Group.{Shortest};
-ghost use Rattle.packed.specs.Refusals.{group_limit};
-ghost use Rattle.packed.specs.Stages.{widest_group};
-ghost use Rattle.wide_stores.specs.Wide.{FoundByZeros, left_behind, StoresWide, EncodesWide, RunsWide, RunsWideSteps};
+ghost use Rattle.wide_stores.specs.Wide.{FoundByZeros, left_behind, StoresWide, EncodesWide, HasRoom, RunsWide};
 
 use coding_descriptor::{CodingDescriptor, TagValue};
 use elem::Elem;
 use raw_group::Encoded;
+pub use sink::{EncodeSink, StandardEncodeSink};
 
 // A coding whose tag values are known by the zero bytes in front of a value.
 pub trait FastEncode: CodingDescriptor {
@@ -30,14 +30,6 @@ pub fn tag_value<D: FastEncode>(value: D::Elem) -> TagValue
     ensures { Shortest D.table D.Elem.SIZE (D.Elem.number value) result.tag result.len }
 {
     D::by_zeros(value.zero_bytes())
-}
-
-// Load a group of 4 elements from at on.
-pub fn load_group<E: Elem>(values: &[E], at: usize) -> [E; 4]
-    requires { at + 4 ≤ length values.now }
-    ensures { map E.number result ≡ take 4 (drop at (map E.number values.now)) }
-{
-    [values[at], values[at + 1], values[at + 2], values[at + 3]]
 }
 
 // One value: all its bytes, of which those that are not its own lie behind them.
@@ -67,48 +59,23 @@ fn encode<D: FastEncode>(output: &mut [u8], at: usize, group: [D::Elem; 4]) -> E
     }
 }
 
-// The first groups of values, where each has room for the widest group. Returns the number of bytes written.
-pub fn encode_front<D: FastEncode>(
+// The groups of values, where each has room for the widest. Returns the number of bytes written.
+pub fn encode_front<D: FastEncode, S: EncodeSink<D::Elem>>(
+    mut sink: S,
     values: &[D::Elem],
-    groups: usize,
     tags: &mut [u8],
     data: &mut [u8],
 ) -> usize
-    requires groups_in_bounds { (4 * groups ≤ length values.now) × (groups ≤ group_limit) }
-    requires room { (groups ≤ length tags.old) × (widest_group D.table * groups ≤ length «data».old) }
-    ensures { RunsWide D.table (left_behind D.table) (map D.Elem.number values.now) tags.old «data».old groups result tags.new «data».new }
+    requires { HasRoom D.table values.now tags.old «data».old }
+    ensures { RunsWide D.table (left_behind D.table) (S.stored sink (map D.Elem.number values.now)) tags.old «data».old (length values.now / 4) result tags.new «data».new }
 {
+    let (groups, _) = values.as_chunks::<4>();
     let mut written = 0usize;
-    for i in 0..groups {
-        let group = load_group(values, 4 * i);
-        let e = encode::<D>(data, written, group);
+    // The Rust goes over `zip(tags.iter_mut())`; of the tags so written a proof knows the count alone, and `returns` does not close.
+    for (i, group) in groups.iter().enumerate() {
+        let e = encode::<D>(data, written, sink.handle(*group));
         tags[i] = e.tag;
         written += e.written;
     }
     written
-}
-
-// The same of the deltas from initial on. Returns the last group too, or the start where there is none.
-pub fn encode_deltas_front<D: FastEncode>(
-    initial: D::Elem,
-    values: &[D::Elem],
-    groups: usize,
-    tags: &mut [u8],
-    data: &mut [u8],
-) -> (usize, [D::Elem; 4])
-    requires groups_in_bounds { (4 * groups ≤ length values.now) × (groups ≤ group_limit) }
-    requires room { (groups ≤ length tags.old) × (widest_group D.table * groups ≤ length «data».old) }
-    ensures { RunsWideSteps D.table (left_behind D.table) D.Elem.modulus (D.Elem.number initial) (map D.Elem.number values.now) tags.old «data».old groups result.0 (get_or (map D.Elem.number result.1) 3 0) tags.new «data».new }
-{
-    let mut written = 0usize;
-    let mut base = [initial; 4];
-    for i in 0..groups {
-        let group = load_group(values, 4 * i);
-        let steps = raw_group::deltas(base, group);
-        let e = encode::<D>(data, written, steps);
-        tags[i] = e.tag;
-        written += e.written;
-        base = group;
-    }
-    (written, base)
 }

@@ -2,15 +2,15 @@
 // cover, and a group can have none, as zeros of coder 0124: the end is looked for from behind.
 #![tactic(auto)]
 
-ghost use Rattle.std.specs.Prelude.{true, [], ◌∷◌, ◌≡◌, map, ◌*◌, ◌≤◌, length, drop};
-ghost use Rattle.packed.specs.Format.{tag_of, bytes_of, steps};
+ghost use Rattle.std.specs.Prelude.{true, [], ◌∷◌, ◌≡◌, map, ◌/◌, length};
+ghost use Rattle.packed.specs.Format.{tag_of, bytes_of};
 ghost use Rattle.wide_stores.specs.Wide.{left_behind, Covers};
 
 use coding_descriptor::{CodingDescriptor, data_len};
 use elem::Elem;
-use fast_encode::{FastEncode, load_group, tag_value};
+use fast_encode::{EncodeSink, FastEncode, tag_value};
 
-// Four zeros, of which a column may have many.
+// Four zeros, of which a column may have many. Four tests: `all` over a list of four would be no shorter, and its law has to be taken apart.
 fn is_zero<E: Elem>(group: [E; 4]) -> bool
     ensures { result ≡ true → map E.number group ≡ 0 ∷ 0 ∷ 0 ∷ 0 ∷ [] }
 {
@@ -48,41 +48,16 @@ fn to_cover<D: CodingDescriptor>() -> usize
 // The groups behind the answer have as many bytes as the words leave or more, or it is 0. Kept apart: put into its caller, it would leave too
 // few registers to the loop over the groups in front.
 #[inline(never)]
-pub fn front_end<D: FastEncode>(values: &[D::Elem], groups: usize) -> usize
-    requires { 4 * groups ≤ length values.now }
-    ensures { Covers D.table (left_behind D.table) (map D.Elem.number values.now) groups result }
+pub fn front_end<D: FastEncode, S: EncodeSink<D::Elem>>(start: S, values: &[D::Elem]) -> usize
+    ensures { Covers D.table (left_behind D.table) (S.stored start (map D.Elem.number values.now)) (length values.now / 4) result }
 {
+    let (groups, _) = values.as_chunks::<4>();
     let mut uncovered = to_cover::<D>();
-    for front in (0..groups).rev() {
-        let group = load_group(values, 4 * front);
-        uncovered = uncovered.saturating_sub(group_len::<D>(group));
-        if uncovered == 0 {
-            return front;
-        }
-    }
-    0
-}
-
-// The value before the one at a place: the one that its step goes on from.
-fn value_before<E: Elem>(initial: E, values: &[E], at: usize) -> E
-    requires { at ≤ length values.now }
-    ensures { steps E.modulus (E.number result) (drop at (map E.number values.now)) ≡ drop at (steps E.modulus (E.number initial) (map E.number values.now)) }
-{
-    if at == 0 { initial } else { values[at - 1] }
-}
-
-// The same of the deltas from initial on.
-#[inline(never)]
-pub fn deltas_front_end<D: FastEncode>(initial: D::Elem, values: &[D::Elem], groups: usize) -> usize
-    requires { 4 * groups ≤ length values.now }
-    ensures { Covers D.table (left_behind D.table) (steps D.Elem.modulus (D.Elem.number initial) (map D.Elem.number values.now)) groups result }
-{
-    let mut uncovered = to_cover::<D>();
-    for front in (0..groups).rev() {
-        let before = value_before(initial, values, 4 * front);
-        let group = load_group(values, 4 * front);
-        let steps = raw_group::deltas([before; 4], group);
-        uncovered = uncovered.saturating_sub(group_len::<D>(steps));
+    // By place: over `groups.iter().enumerate().rev()` the place has to be told from what was yielded, and `returns-then-uncovered-eq0` stays open.
+    for front in (0..groups.len()).rev() {
+        let mut sink = start.from(values, 4 * front);
+        let stored = sink.handle(groups[front]);
+        uncovered = uncovered.saturating_sub(group_len::<D>(stored));
         if uncovered == 0 {
             return front;
         }

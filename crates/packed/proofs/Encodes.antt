@@ -3,12 +3,11 @@
 use mathlib.Core.Path.{◌≡◌, refl, ap, ap₂, sym, ◌∙◌, subst}
 use mathlib.Core.List.{List, [], ◌∷◌, ◌++◌, append_assoc}
 use Prim.Native.Nat.{ℕ, zero, suc, ◌+◌, ◌-◌, ◌*◌, ◌%◌, ◌≤◌, ◌<◌, zero-le}
-use native.Mathlib.Nat.{add-zero, zero-add, mul-suc, mul-le-mul_left}
+use native.Mathlib.Nat.{zero-add, mul-suc, mul-le-mul_left}
 use native.Mathlib.Numerals.{add-one}
 use native.Mathlib.Omega.{arith}
-use lib.Dec.{lit<}
-use lib.ListN.{length, take, drop, get_or, set, length-append, length-take, length-drop, length-set}
-use lib.Seq.{sets, sets-eq, length-sets, take-add, take_all, drop-drop, length-take-le, get_or-take, get_or-drop}
+use lib.ListN.{length, take, drop, get_or, set, length-append, length-take, length-set}
+use lib.Seq.{sets, sets-eq, length-sets, take-add, take_all, drop-drop}
 use Rattle.packed.specs.Format.{le_bytes, short_width, tag_of, tags_of, bytes_of, steps}
 use Rattle.packed.specs.Group.{Encodes}
 use Rattle.packed.specs.Stages.{widest_group}
@@ -16,20 +15,10 @@ use Rattle.packed.specs.Column.{RunsEncode}
 use Rattle.packed.proofs.Bytes.{le_bytes-length}
 use Rattle.packed.proofs.Deltas.{last_of}
 use Rattle.packed.proofs.Ends.{Table}
-use Rattle.packed.proofs.Fours.{four_is, last_of_four}
 use Rattle.packed.proofs.Loops.{at_most, sets-append}
 use Rattle.packed.proofs.Widths.{short_width_is}
 
 -- ---- four numbers of a list
-
-pub four_taken : (l : List ℕ) (at : ℕ) → at + 4 ≤ length l
-    → get_or l at 0 ∷ get_or l (at + 1) 0 ∷ get_or l (at + 2) 0 ∷ get_or l (at + 3) 0 ∷ [] ≡ take 4 (drop at l)
-four_taken l at h =
-    let g : List ℕ = take 4 (drop at l) in
-    let held : length g ≡ 4 = length-take-le 4 (drop at l) (omega (arith, length-drop at l)) in
-    let one : (k : ℕ) → k < 4 → get_or l (at + k) 0 ≡ get_or g k 0 = λ k hk. sym (get_or-take 4 (drop at l) k 0 hk ∙ get_or-drop at l k 0) in
-    let first : get_or l at 0 ≡ get_or g 0 0 = ap (λ (n : ℕ). get_or l n 0) (sym (add-zero at)) ∙ one 0 (lit< tt) in
-    rw (first, one 1 (lit< tt), one 2 (lit< tt), one 3 (lit< tt)) (sym (four_is g held))
 
 -- the numbers of one group more
 take_group : (n : ℕ) (ds : List ℕ) → take (4 * (n + 1)) ds ≡ take (4 * n) ds ++ take 4 (drop (4 * n) ds)
@@ -119,11 +108,6 @@ module _ (t : List ℕ) where
     pub same_bytes : length bytes ≡ length bytes₀
     pub runs : RunsEncode t ds tags₀ bytes₀ i written tags bytes
 
-  -- of deltas: the steps from p on are stored, and base ends with the value before the next group
-  pub record RunningSteps (m p : ℕ) (values tags₀ bytes₀ : List ℕ) (n i written : ℕ) (base tags bytes : List ℕ) : Type 0 where
-    pub running : RunningEncode (steps m p values) tags₀ bytes₀ n i written tags bytes
-    pub before : get_or base 3 0 ≡ last_of p (take (4 * i) values)
-
   -- ---- a whole column
 
   -- What a run over all numbers leaves: the tags and the bytes, and behind them what was there.
@@ -168,19 +152,6 @@ module _ (t : List ℕ) (is : Table t) where
         same-tags = ap length et ∙ length-set tags i tag ∙ r.same-tags;
         same_bytes = ap length e.output ∙ length-sets bytes written (bytes_of t group) ∙ r.same_bytes;
         runs = runs';
-      }
-
-  pub running_steps_next : {m p : ℕ} {values tags₀ bytes₀ base tags bytes : List ℕ} {n i written : ℕ} (group : List ℕ) (tag len : ℕ) (tags' bytes' : List ℕ)
-      → RunningSteps t m p values tags₀ bytes₀ n i written base tags bytes → i < n → length group ≡ 4 → group ≡ take 4 (drop (4 * i) values)
-      → Encodes t (steps m (get_or base 3 0) group) bytes written tag len bytes' → tags' ≡ set tags i tag
-      → RunningSteps t m p values tags₀ bytes₀ n (i + 1) (written + len) group tags' bytes'
-  running_steps_next {m} {p} {values} {tags₀} {bytes₀} {base} {tags} {bytes} {n} {i} {written} group tag len tags' bytes' r h four eg e et =
-      let stepped : steps m (get_or base 3 0) group ≡ take 4 (drop (4 * i) (steps m p values)) =
-      ap₂ (steps m) r.before eg ∙ sym (steps_group m p (4 * i) values) in
-      record {
-        running = running_encode_next (steps m (get_or base 3 0) group) tag len tags' bytes' r.running h stepped e et;
-        before = last_of_four (last_of p (take (4 * i) values)) group four ∙ ap (last_of (last_of p (take (4 * i) values))) eg
-            ∙ sym (last_of-append p (take (4 * i) values) (take 4 (drop (4 * i) values))) ∙ ap (last_of p) (sym (take_group i values));
       }
 
   pub encodes_all : {ds tags bytes tags' bytes' : List ℕ} {n written : ℕ} → RunsEncode t ds tags bytes n written tags' bytes' → 4 * n ≡ length ds

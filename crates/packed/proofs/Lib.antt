@@ -11,6 +11,7 @@ pub mod Examples
 pub mod Rows
 pub mod Columns
 pub mod Ends
+pub mod Sinks
 pub mod Runs
 pub mod Coders
 pub mod Encodes

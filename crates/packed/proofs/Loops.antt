@@ -4,15 +4,17 @@ use mathlib.Core.Path.{◌≡◌, refl, ap, ap₂, sym, ◌∙◌, subst}
 use mathlib.Core.Bool.{Bool, true}
 use mathlib.Core.List.{List, [], ◌∷◌, ◌++◌, map, append_assoc, append-nil}
 use Prim.Native.Nat.{ℕ, zero, suc, ◌+◌, ◌-◌, ◌*◌, ◌/◌, ◌%◌, ◌^◌, ◌≤◌, ◌<◌, zero-le}
-use native.Mathlib.Nat.{add-zero, zero-add, add_assoc, add-suc, suc-add, mul-suc, zero-lt-suc, mod-lt, mod-add-mod}
+use native.Mathlib.Nat.{add-zero, zero-add, add_assoc, add-suc, suc-add, mul-suc, zero-lt-suc, zero-mod, mod-add-mod}
 use native.Mathlib.Numerals.{add-one}
 use native.Mathlib.Omega.{arith}
 use lib.Dec.{T, leb, leb→le}
-use lib.ListN.{length, take, drop, get_or, set, length-append, length-set, get_or-map}
-use lib.Seq.{sets, length-sets, drop-cons, drop-drop, take-suc-set, take_all}
+use lib.ListN.{length, take, drop, get_or, set, length-append, length-set, get_or-map, drop_of_length-le}
+use borrow.Rule.Slice.PartMut.{put_mid}
+use lib.Seq.{sets, sets-eq, length-sets, drop-cons, drop-drop, take-suc-set, take_all}
 use Rattle.packed.specs.Format.{widths, total, le_value, numbers, le_bytes, shortest, short_width, tag_of, bytes_of, wrapping_sum}
 use Rattle.packed.specs.Group.{Shortest, Decodes}
 use Rattle.packed.proofs.Bytes.{Below, le_bytes-length}
+use Rattle.packed.proofs.Numbers.{total-append}
 use Rattle.packed.proofs.Fours.{four_of, four_is}
 use Rattle.packed.proofs.Table.{both, both_left, both_right}
 use Rattle.packed.proofs.Widths.{top, widths_next, widths_done, rest_next, shortest-field}
@@ -44,24 +46,46 @@ sets-append l i (x ∷ xs) ys =
     sets-append (set l i x) (suc i) xs ys
     ∙ ap (λ (k : ℕ). sets (sets (set l i x) (suc i) xs) k ys) (suc-add i (length xs) ∙ sym (add-suc i (length xs)))
 
--- ---- `store`: the bytes of one number
+-- ---- `store`: the bytes of one number into a slice as long
 
-pub record Storing (before : List ℕ) (at len value i rest : ℕ) (out : List ℕ) : Type 0 where
+pub record Storing (len value i rest : ℕ) (out : List ℕ) : Type 0 where
   pub turn : i ≤ len
-  pub same : length out ≡ length before
-  pub left : sets out (at + i) (le_bytes (len - i) rest) ≡ sets before at (le_bytes len value)
+  pub long : length out ≡ len
+  pub left : sets out i (le_bytes (len - i) rest) ≡ le_bytes len value
 
-pub storing_next : {before : List ℕ} {at len value i rest : ℕ} {out : List ℕ} → Storing before at len value i rest out → i < len
-    → Storing before at len value (i + 1) (rest / 256) (set out (at + i) (rest % 256))
-storing_next {before} {at} {len} {value} {i} {rest} {out} s h =
+pub storing_start : (len value : ℕ) (out : List ℕ) → length out ≡ len → Storing len value 0 value out
+storing_start len value out long =
+    let own : List ℕ = le_bytes len value in
+    let behind : drop (0 + length own) out ≡ [] = drop_of_length-le out (omega (arith, long, le_bytes-length len value)) in
+    let all : len - 0 ≡ len = omega arith in
+    record {
+      turn = zero-le;
+      long = long;
+      left = ap (λ (n : ℕ). sets out 0 (le_bytes n value)) all ∙ sets-eq own out 0 (omega (arith, long, le_bytes-length len value)) ∙ ap (λ (xs : List ℕ). own ++ xs) behind ∙ append-nil own;
+    }
+
+pub storing_next : {len value i rest : ℕ} {out : List ℕ} → Storing len value i rest out → i < len
+    → Storing len value (i + 1) (rest / 256) (set out i (rest % 256))
+storing_next {len} {value} {i} {rest} {out} s h =
     let e : len - i ≡ suc (len - (i + 1)) = omega (arith, s.turn) in
-    let p : at + (i + 1) ≡ suc (at + i) = omega arith in
     record {
       turn = omega arith;
-      same = length-set out (at + i) (rest % 256) ∙ s.same;
-      left = ap (λ (k : ℕ). sets (set out (at + i) (rest % 256)) k (le_bytes (len - (i + 1)) (rest / 256))) p
-          ∙ sym (ap (λ (n : ℕ). sets out (at + i) (le_bytes n rest)) e) ∙ s.left;
+      long = length-set out i (rest % 256) ∙ s.long;
+      left = ap (λ (k : ℕ). sets (set out i (rest % 256)) k (le_bytes (len - (i + 1)) (rest / 256))) (add-one i)
+          ∙ sym (ap (λ (n : ℕ). sets out i (le_bytes n rest)) e) ∙ s.left;
     }
+
+-- that slice in its place again
+pub storing_done : {len value i rest : ℕ} {out : List ℕ} → Storing len value i rest out → len ≤ i → (before : List ℕ) (at k : ℕ) → k ≡ len
+    → at + len ≤ length before → put_mid at k before out ≡ sets before at (le_bytes len value)
+storing_done {len} {value} {i} {rest} {out} s h before at k ek room =
+    let own : List ℕ = le_bytes len value in
+    let none : 0 ≡ len - i = omega arith in
+    let all : out ≡ own = ap (λ (n : ℕ). sets out i (le_bytes n rest)) none ∙ s.left in
+    let behind : drop k (drop at before) ≡ drop (at + length own) before =
+    drop-drop k at before ∙ ap (λ (n : ℕ). drop (at + n) before) (ek ∙ sym (le_bytes-length len value)) in
+    ap₂ (λ (xs ys : List ℕ). take at before ++ (xs ++ ys)) all behind ∙ sym (append_assoc (take at before) own (drop (at + length own) before))
+    ∙ sym (sets-eq own before at (omega (arith, room, le_bytes-length len value)))
 
 -- ---- `decode`: four numbers, one after the other
 
@@ -191,31 +215,14 @@ encoding_next {t} {group} {before} {at} {w} {i} {tag} {written} {out} f len out'
           ∙ ap (sets out (at + written)) (sym bytes) ∙ c.left);
     }
 
--- ---- `sum`: four numbers added up, modulo m
+-- ---- `sum`: one number more behind those that are added up, modulo m
 
-pub record Summing (group : List ℕ) (m i s : ℕ) : Type 0 where
-  pub turn : i ≤ 4
-  pub small : s < m
-  pub left : (s + total (drop i group)) % m ≡ wrapping_sum m group
-
-pub summing_start : (group : List ℕ) (m : ℕ) → 0 < m → Summing group m 0 0
+pub sum_start : (m : ℕ) → 0 ≡ wrapping_sum m []
 unfolding wrapping_sum
-summing_start group m h = record {
-  turn = zero-le;
-  small = h;
-  left = ap (λ (n : ℕ). n % m) (zero-add (total group));
-}
+sum_start m = sym (zero-mod m)
 
-pub summing_next : {group : List ℕ} {m i s : ℕ} (s' : ℕ) → Summing group m i s → i < 4 → length group ≡ 4 → s' ≡ (s + get_or group i 0) % m
-    → Summing group m (i + 1) s'
-summing_next {group} {m} {i} {s} s' c h g e =
-    let v : ℕ = get_or group i 0 in
-    let rest : ℕ = total (drop (suc i) group) in
-    let pos : 0 < m = omega (arith, c.small) in
-    let cut : drop i group ≡ v ∷ drop (suc i) group = drop-cons group i 0 (omega (arith, g)) in
-    record {
-      turn = omega arith;
-      small = subst (λ (n : ℕ). n < m) (sym e) (mod-lt (s + v) pos);
-      left = rw add-one (ap (λ (n : ℕ). (n + rest) % m) e ∙ mod-add-mod (s + v) m rest ∙ ap (λ (n : ℕ). n % m) (add_assoc s v rest)
-          ∙ ap (λ (l : List ℕ). (s + total l) % m) (sym cut) ∙ c.left);
-    }
+pub sum_next : (m : ℕ) (vs : List ℕ) (s v : ℕ) → s ≡ wrapping_sum m vs → (s + v) % m ≡ wrapping_sum m (vs ++ (v ∷ []))
+unfolding wrapping_sum
+sum_next m vs s v e =
+    ap (λ (n : ℕ). (n + v) % m) e ∙ mod-add-mod (total vs) m v
+    ∙ ap (λ (n : ℕ). n % m) (ap (λ (n : ℕ). total vs + n) (sym (add-zero v)) ∙ sym (total-append vs (v ∷ [])))

@@ -1,18 +1,18 @@
 -- The invariants of the runs' loops, over the width table t: how each starts, what one group more or eight do, and what it has come to at
 -- the end. Assumes nothing.
-use mathlib.Core.Path.{◌≡◌, refl, ap, sym, ◌∙◌, subst}
-use mathlib.Core.List.{List}
-use Prim.Native.Nat.{ℕ, ◌+◌, ◌*◌, ◌%◌, ◌≤◌, ◌<◌}
-use native.Mathlib.Nat.{add-zero, add_assoc, le_refl, mod-lt}
+use mathlib.Core.Path.{◌≡◌, ap, sym, ◌∙◌, subst}
+use mathlib.Core.List.{List, map}
+use Prim.Native.Nat.{ℕ, ◌+◌, ◌*◌, ◌≤◌, ◌<◌}
+use native.Mathlib.Nat.{add-zero, zero-add, add_assoc, le_refl}
 use native.Mathlib.Omega.{arith}
 use lib.ListN.{length, get_or, drop}
-use lib.Seq.{sets, slice, length-sets}
-use Rattle.packed.specs.Format.{total, data_len, stored, walked}
-use Rattle.packed.specs.Group.{Decodes, DecodesDeltas, Skips}
+use lib.Seq.{slice}
+use Rattle.std.proofs.lemmas.List.{length-map}
+use Rattle.packed.specs.Format.{total, widths, numbers, data_len, stored}
 use Rattle.packed.specs.Stages.{widest_group}
-use Rattle.packed.specs.Column.{Windows, Runs, RunsDeltas, RunsSum}
-use Rattle.packed.proofs.Columns.{slice_join, len_join, none_read, runs_none, runs_one, runs_join, deltas_none, deltas_one, deltas_join, sum_none, sum_one, sum_join_runs}
-use Rattle.packed.proofs.Fours.{last_of_four}
+use Rattle.packed.specs.Column.{Windows}
+use Rattle.packed.specs.Sinks.{Sinks, Made}
+use Rattle.packed.proofs.Columns.{slice_join, len_join, none_read, none_stored, one_read, one_numbers, stored_join, stored_place}
 use Rattle.packed.proofs.Numbers.{data_len-append}
 
 module _ (t : List ℕ) where
@@ -57,167 +57,105 @@ module _ (t : List ℕ) where
     far = len_join t tags bytes from i j at read end u.forward h (omega (arith, u.inside, u.windows.tags_there)) u.far e;
   }
 
-  -- ---- decoding
+-- ---- the runs of a sink
 
-  pub record Running (tags bytes before : List ℕ) (from to at i read : ℕ) (values : List ℕ) : Type 0 where
-    pub way : Underway tags bytes from to at i read
-    pub room : 4 * to ≤ length values
-    pub same : length values ≡ length before
-    pub runs : Runs t tags bytes before from i at read values
+module _ (t : List ℕ) (m : ℕ) (Fits : ℕ → ℕ → Type 0) (Took : List ℕ → List ℕ → ℕ → ℕ → List ℕ → ℕ → Type 0) (laws : Sinks m Fits Took) where
+  made_none : (tags bytes before : List ℕ) (a at p : ℕ) → p < m → Made t Took tags bytes before a a at p at before p
+  made_none tags bytes before a at p h = record {
+    read = none_read t tags bytes a at;
+    took = rw (none_stored t tags bytes a at) (laws.none before (4 * a) p h);
+  }
 
-  pub running_start : {tags bytes before : List ℕ} {from to at : ℕ} → Windows t tags bytes from to at → 4 * to ≤ length before
-      → Running tags bytes before from to at from at before
-  running_start {tags} {bytes} {before} {from} {to} {at} w h = record {
-    way = underway_start w;
+  -- one group, whose numbers the sink took
+  made_one : (tags bytes before : List ℕ) (i at read p : ℕ) (after : List ℕ) (q : ℕ) → i < length tags → read ≡ total (widths t (get_or tags i 0))
+      → Took (numbers (widths t (get_or tags i 0)) (drop at bytes)) before (4 * i) p after q → Made t Took tags bytes before i (i + 1) at p (at + read) after q
+  made_one tags bytes before i at read p after q h e d = record {
+    read = one_read t tags bytes i at read h e;
+    took = subst (λ (l : List ℕ). Took l before (4 * i) p after q) (one_numbers t tags bytes i at h) d;
+  }
+
+  pub made_join : {tags bytes before between after : List ℕ} {a b c at mid end p q r : ℕ} → a ≤ b → b ≤ c → b ≤ length tags → p < m
+      → Made t Took tags bytes before a b at p mid between q → Made t Took tags bytes between b c mid q end after r
+      → Made t Took tags bytes before a c at p end after r
+  made_join {tags} {bytes} {before} {between} {after} {a} {b} {c} {at} {mid} {end} {p} {q} {r} h k n hp x y =
+      let xs : List ℕ = stored t (slice a b tags) (drop at bytes) in
+      let ys : List ℕ = stored t (slice b c tags) (drop mid bytes) in
+      let second : Took ys between (4 * a + length xs) q after r =
+      subst (λ (j : ℕ). Took ys between j q after r) (sym (stored_place t tags bytes a b at h n)) y.took in
+      record {
+        read = len_join t tags bytes a b c at mid end h k n x.read y.read;
+        took = subst (λ (l : List ℕ). Took l before (4 * a) p after r) (sym (stored_join t tags bytes a b c at mid h k n x.read))
+            (laws.join xs ys before between after (4 * a) p q r hp x.took second);
+      }
+
+  -- a run over a scratch, which has the same numbers at 0 as the data at `at`
+  pub made_moved : (tags bytes scratch : List ℕ) (a b at : ℕ) → stored t (slice a b tags) scratch ≡ stored t (slice a b tags) (drop at bytes)
+      → {before after : List ℕ} {p end q : ℕ} → Made t Took tags scratch before a b 0 p end after q → Made t Took tags bytes before a b at p (at + end) after q
+  made_moved tags bytes scratch a b at same {before} {after} {p} {end} {q} x = record {
+    read = ap (λ (n : ℕ). at + n) (x.read ∙ zero-add (data_len t (slice a b tags)));
+    took = subst (λ (l : List ℕ). Took l before (4 * a) p after q) same x.took;
+  }
+
+  -- a run leaves as much room as there was
+  pub made_room : {E : Type 0} (f : E → ℕ) {tags bytes : List ℕ} (old new : List E) {a b at p end q : ℕ} (n : ℕ)
+      → Made t Took tags bytes (map f old) a b at p end (map f new) q → Fits (length old) n → Fits (length new) n
+  made_room f {tags} {bytes} old new {a} {b} {at} {p} {end} {q} n x h =
+      let same : length (map f new) ≡ length (map f old) =
+      laws.keeps (stored t (slice a b tags) (drop at bytes)) (map f old) (4 * a) p (map f new) q x.took in
+      subst (λ (j : ℕ). Fits j n) (sym (sym (length-map new f) ∙ same ∙ length-map old f)) h
+
+  pub record Running (tags bytes before : List ℕ) (from to at p i read : ℕ) (values : List ℕ) (last : ℕ) : Type 0 where
+    pub way : Underway t tags bytes from to at i read
+    pub room : Fits (length values) to
+    pub start : p < m
+    pub made : Made t Took tags bytes before from i at p read values last
+
+  pub running_start : {tags bytes before : List ℕ} {from to at p : ℕ} → Windows t tags bytes from to at → Fits (length before) to → p < m
+      → Running tags bytes before from to at p from at before p
+  running_start {tags} {bytes} {before} {from} {to} {at} {p} w h hp = record {
+    way = underway_start t w;
     room = h;
-    same = refl;
-    runs = runs_none t tags bytes before from at;
+    start = hp;
+    made = made_none tags bytes before from at p hp;
   }
 
   -- a part of the run done, up to j
-  pub running_part : {tags bytes before values values' : List ℕ} {from to at i read : ℕ} (j end : ℕ) → Running tags bytes before from to at i read values
-      → i ≤ j → j ≤ to → Runs t tags bytes values i j read end values' → Running tags bytes before from to at j end values'
-  running_part {tags} {bytes} {before} {values} {values'} {from} {to} {at} {i} {read} j end r h hj p =
-      let same : length values' ≡ length values = ap length p.values ∙ length-sets values (4 * i) (stored t (slice i j tags) (drop read bytes)) in
+  pub running_part : {tags bytes before values values' : List ℕ} {from to at p i read last : ℕ} (j end last' : ℕ)
+      → Running tags bytes before from to at p i read values last
+      → i ≤ j → j ≤ to → Made t Took tags bytes values i j read last end values' last' → Running tags bytes before from to at p j end values' last'
+  running_part {tags} {bytes} {before} {values} {values'} {from} {to} {at} {p} {i} {read} {last} j end last' r h hj x =
+      let same : length values' ≡ length values =
+      laws.keeps (stored t (slice i j tags) (drop read bytes)) values (4 * i) last values' last' x.took in
       record {
-        way = further j end r.way h hj p.read;
-        room = omega (arith, r.room);
-        same = same ∙ r.same;
-        runs = runs_join t tags bytes r.way.forward h (omega (arith, r.way.inside, r.way.windows.tags_there)) r.runs p;
+        way = further t j end r.way h hj x.read;
+        room = subst (λ (n : ℕ). Fits n to) (sym same) r.room;
+        start = r.start;
+        made = made_join r.way.forward h (omega (arith, r.way.inside, r.way.windows.tags_there)) r.start r.made x;
       }
 
   -- one group more
-  pub running_next : {tags bytes before values : List ℕ} {from to at i read : ℕ} (n : ℕ) (group values' : List ℕ)
-      → Running tags bytes before from to at i read values → i < to → Decodes t bytes read (get_or tags i 0) n group → values' ≡ sets values (4 * i) group
-      → Running tags bytes before from to at (i + 1) (read + n) values'
-  running_next {tags} {bytes} {before} {values} {from} {to} {at} {i} {read} n group values' r h d e =
-      running_part (i + 1) (read + n) r (omega arith) (omega arith)
-      (subst (λ (l : List ℕ). Runs t tags bytes values i (i + 1) read (read + n) l) (sym e)
-      (runs_one t tags bytes values i read n group (omega (arith, r.way.windows.tags_there)) d))
+  pub running_next : {tags bytes before values : List ℕ} {from to at p i read last : ℕ} (n : ℕ) (values' : List ℕ) (last' : ℕ)
+      → Running tags bytes before from to at p i read values last → i < to → n ≡ total (widths t (get_or tags i 0))
+      → Took (numbers (widths t (get_or tags i 0)) (drop read bytes)) values (4 * i) last values' last'
+      → Running tags bytes before from to at p (i + 1) (read + n) values' last'
+  running_next {tags} {bytes} {before} {values} {from} {to} {at} {p} {i} {read} {last} n values' last' r h e d =
+      running_part (i + 1) (read + n) last' r (omega arith) (omega arith)
+      (made_one tags bytes values i read n last values' last' (omega (arith, r.way.windows.tags_there)) e d)
 
   -- the same counted from the run's first group
-  pub running_from : {tags bytes before : List ℕ} {from to at : ℕ} → Windows t tags bytes from to at → 4 * to ≤ length before
-      → Running tags bytes before from to at (from + 0) at before
-  running_from {tags} {bytes} {before} {from} {to} {at} w h = rw (add-zero from) (running_start w h)
+  pub running_from : {tags bytes before : List ℕ} {from to at p : ℕ} → Windows t tags bytes from to at → Fits (length before) to → p < m
+      → Running tags bytes before from to at p (from + 0) at before p
+  running_from {tags} {bytes} {before} {from} {to} {at} {p} w h hp = rw (add-zero from) (running_start w h hp)
 
-  pub running_step : {tags bytes before values : List ℕ} {from to at read : ℕ} (base k n : ℕ) (group values' : List ℕ)
-      → Running tags bytes before from to at (base + k) read values → base + k < to → Decodes t bytes read (get_or tags (base + k) 0) n group
-      → values' ≡ sets values (4 * (base + k)) group → Running tags bytes before from to at (base + (k + 1)) (read + n) values'
-  running_step {tags} {bytes} {before} {values} {from} {to} {at} {read} base k n group values' r h d e =
-      subst (λ (j : ℕ). Running tags bytes before from to at j (read + n) values') (add_assoc base k 1) (running_next n group values' r h d e)
+  pub running_step : {tags bytes before values : List ℕ} {from to at p read last : ℕ} (base k n : ℕ) (values' : List ℕ) (last' : ℕ)
+      → Running tags bytes before from to at p (base + k) read values last → base + k < to → n ≡ total (widths t (get_or tags (base + k) 0))
+      → Took (numbers (widths t (get_or tags (base + k) 0)) (drop read bytes)) values (4 * (base + k)) last values' last'
+      → Running tags bytes before from to at p (base + (k + 1)) (read + n) values' last'
+  running_step {tags} {bytes} {before} {values} {from} {to} {at} {p} {read} {last} base k n values' last' r h e d =
+      subst (λ (j : ℕ). Running tags bytes before from to at p j (read + n) values' last') (add_assoc base k 1) (running_next n values' last' r h e d)
 
-  pub running_done : {tags bytes before values : List ℕ} {from to at i read : ℕ} → Running tags bytes before from to at i read values → to ≤ i
-      → Runs t tags bytes before from to at read values
-  running_done {tags} {bytes} {before} {values} {from} {to} {at} {i} {read} r h =
+  pub running_done : {tags bytes before values : List ℕ} {from to at p i read last : ℕ} → Running tags bytes before from to at p i read values last → to ≤ i
+      → Made t Took tags bytes before from to at p read values last
+  running_done {tags} {bytes} {before} {values} {from} {to} {at} {p} {i} {read} {last} r h =
       let e : i ≡ to = omega (arith, r.way.inside) in
-      subst (λ (n : ℕ). Runs t tags bytes before from n at read values) e r.runs
-
-  -- ---- delta decoding, from p on modulo m
-
-  pub record RunningDeltas (tags bytes before : List ℕ) (m from to at p i read last : ℕ) (values : List ℕ) : Type 0 where
-    pub way : Underway tags bytes from to at i read
-    pub room : 4 * to ≤ length values
-    pub same : length values ≡ length before
-    pub start : p < m
-    pub small : last < m
-    pub runs : RunsDeltas t tags bytes before m from i at p read last values
-
-  pub running_deltas_start : {tags bytes before : List ℕ} {m from to at p : ℕ} → Windows t tags bytes from to at → 4 * to ≤ length before → p < m
-      → RunningDeltas tags bytes before m from to at p from at p before
-  running_deltas_start {tags} {bytes} {before} {m} {from} {to} {at} {p} w h hp = record {
-    way = underway_start w;
-    room = h;
-    same = refl;
-    start = hp;
-    small = hp;
-    runs = deltas_none t tags bytes before m from at p hp;
-  }
-
-  pub running_deltas_part : {tags bytes before values values' : List ℕ} {m from to at p i read last : ℕ} (j end last' : ℕ)
-      → RunningDeltas tags bytes before m from to at p i read last values
-      → i ≤ j → j ≤ to → RunsDeltas t tags bytes values m i j read last end last' values' → RunningDeltas tags bytes before m from to at p j end last' values'
-  running_deltas_part {tags} {bytes} {before} {values} {values'} {m} {from} {to} {at} {p} {i} {read} {last} j end last' r h hj q =
-      let ns : List ℕ = stored t (slice i j tags) (drop read bytes) in
-      let same : length values' ≡ length values = ap length q.values ∙ length-sets values (4 * i) (walked m last ns) in
-      let pos : 0 < m = omega (arith, r.start) in
-      record {
-        way = further j end r.way h hj q.read;
-        room = omega (arith, r.room);
-        same = same ∙ r.same;
-        start = r.start;
-        small = subst (λ (n : ℕ). n < m) (sym q.last) (mod-lt (last + total ns) pos);
-        runs = deltas_join t tags bytes r.way.forward h (omega (arith, r.way.inside, r.way.windows.tags_there)) r.start r.runs q;
-      }
-
-  pub running_deltas_next : {tags bytes before values : List ℕ} {m from to at p i read last : ℕ} (n : ℕ) (group values' : List ℕ)
-      → RunningDeltas tags bytes before m from to at p i read last values → i < to → length group ≡ 4
-      → DecodesDeltas t bytes m read (get_or tags i 0) last n group → values' ≡ sets values (4 * i) group
-      → RunningDeltas tags bytes before m from to at p (i + 1) (read + n) (get_or group 3 0) values'
-  running_deltas_next {tags} {bytes} {before} {values} {m} {from} {to} {at} {p} {i} {read} {last} n group values' r h four d e =
-      running_deltas_part (i + 1) (read + n) (get_or group 3 0) r (omega arith) (omega arith)
-      (subst (λ (l : List ℕ). RunsDeltas t tags bytes values m i (i + 1) read last (read + n) (get_or group 3 0) l) (sym e)
-      (deltas_one t tags bytes values m i read last n (get_or group 3 0) group (omega (arith, r.way.windows.tags_there)) r.small d (last_of_four last group four)))
-
-  pub running_deltas_from : {tags bytes before : List ℕ} {m from to at p : ℕ} → Windows t tags bytes from to at → 4 * to ≤ length before → p < m
-      → RunningDeltas tags bytes before m from to at p (from + 0) at p before
-  running_deltas_from {tags} {bytes} {before} {m} {from} {to} {at} {p} w h hp = rw (add-zero from) (running_deltas_start w h hp)
-
-  pub running_deltas_step : {tags bytes before values : List ℕ} {m from to at p read last : ℕ} (base k n : ℕ) (group values' : List ℕ)
-      → RunningDeltas tags bytes before m from to at p (base + k) read last values → base + k < to → length group ≡ 4
-      → DecodesDeltas t bytes m read (get_or tags (base + k) 0) last n group → values' ≡ sets values (4 * (base + k)) group
-      → RunningDeltas tags bytes before m from to at p (base + (k + 1)) (read + n) (get_or group 3 0) values'
-  running_deltas_step {tags} {bytes} {before} {values} {m} {from} {to} {at} {p} {read} {last} base k n group values' r h four d e =
-      subst (λ (j : ℕ). RunningDeltas tags bytes before m from to at p j (read + n) (get_or group 3 0) values') (add_assoc base k 1) (running_deltas_next n group values' r h four d e)
-
-  pub running_deltas_done : {tags bytes before values : List ℕ} {m from to at p i read last : ℕ}
-      → RunningDeltas tags bytes before m from to at p i read last values → to ≤ i → RunsDeltas t tags bytes before m from to at p read last values
-  running_deltas_done {tags} {bytes} {before} {values} {m} {from} {to} {at} {p} {i} {read} {last} r h =
-      let e : i ≡ to = omega (arith, r.way.inside) in
-      subst (λ (n : ℕ). RunsDeltas t tags bytes before m from n at p read last values) e r.runs
-
-  -- ---- skipping, from p on modulo m
-
-  pub record RunningSum (tags bytes : List ℕ) (m from to at p i read sum : ℕ) : Type 0 where
-    pub way : Underway tags bytes from to at i read
-    pub small : sum < m
-    pub runs : RunsSum t tags bytes m from i at p read sum
-
-  pub running_sum_start : {tags bytes : List ℕ} {m from to at p : ℕ} → Windows t tags bytes from to at → p < m
-      → RunningSum tags bytes m from to at p from at p
-  running_sum_start {tags} {bytes} {m} {from} {to} {at} {p} w hp = record {
-    way = underway_start w;
-    small = hp;
-    runs = sum_none t tags bytes m from at p hp;
-  }
-
-  pub running_sum_part : {tags bytes : List ℕ} {m from to at p i read sum : ℕ} (j end sum' : ℕ) → RunningSum tags bytes m from to at p i read sum
-      → i ≤ j → j ≤ to → RunsSum t tags bytes m i j read sum end sum' → RunningSum tags bytes m from to at p j end sum'
-  running_sum_part {tags} {bytes} {m} {from} {to} {at} {p} {i} {read} {sum} j end sum' r h hj q =
-      let pos : 0 < m = omega (arith, r.small) in
-      record {
-        way = further j end r.way h hj q.read;
-        small = subst (λ (n : ℕ). n < m) (sym q.sum) (mod-lt (sum + total (stored t (slice i j tags) (drop read bytes))) pos);
-        runs = sum_join_runs t tags bytes r.way.forward h (omega (arith, r.way.inside, r.way.windows.tags_there)) r.runs q;
-      }
-
-  pub running_sum_next : {tags bytes : List ℕ} {m from to at p i read sum : ℕ} (n s sum' : ℕ) → RunningSum tags bytes m from to at p i read sum → i < to
-      → Skips t bytes m read (get_or tags i 0) n s → sum' ≡ (sum + s) % m → RunningSum tags bytes m from to at p (i + 1) (read + n) sum'
-  running_sum_next {tags} {bytes} {m} {from} {to} {at} {p} {i} {read} {sum} n s sum' r h d e =
-      running_sum_part (i + 1) (read + n) sum' r (omega arith) (omega arith)
-      (sum_one t tags bytes m i read sum n s sum' (omega (arith, r.way.windows.tags_there)) d e)
-
-  pub running_sum_from : {tags bytes : List ℕ} {m from to at p : ℕ} → Windows t tags bytes from to at → p < m
-      → RunningSum tags bytes m from to at p (from + 0) at p
-  running_sum_from {tags} {bytes} {m} {from} {to} {at} {p} w hp = rw (add-zero from) (running_sum_start w hp)
-
-  pub running_sum_step : {tags bytes : List ℕ} {m from to at p read sum : ℕ} (base k n s sum' : ℕ) → RunningSum tags bytes m from to at p (base + k) read sum
-      → base + k < to → Skips t bytes m read (get_or tags (base + k) 0) n s → sum' ≡ (sum + s) % m
-      → RunningSum tags bytes m from to at p (base + (k + 1)) (read + n) sum'
-  running_sum_step {tags} {bytes} {m} {from} {to} {at} {p} {read} {sum} base k n s sum' r h d e =
-      subst (λ (j : ℕ). RunningSum tags bytes m from to at p j (read + n) sum') (add_assoc base k 1) (running_sum_next n s sum' r h d e)
-
-  pub running_sum_done : {tags bytes : List ℕ} {m from to at p i read sum : ℕ} → RunningSum tags bytes m from to at p i read sum → to ≤ i
-      → RunsSum t tags bytes m from to at p read sum
-  running_sum_done {tags} {bytes} {m} {from} {to} {at} {p} {i} {read} {sum} r h =
-      let e : i ≡ to = omega (arith, r.way.inside) in
-      subst (λ (n : ℕ). RunsSum t tags bytes m from n at p read sum) e r.runs
+      subst (λ (n : ℕ). Made t Took tags bytes before from n at p read values last) e r.made

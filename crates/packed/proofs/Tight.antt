@@ -2,55 +2,66 @@
 -- the width table t. Assumes nothing.
 use mathlib.Core.Path.{◌≡◌, refl, ap, ap₂, sym, ◌∙◌, subst}
 use mathlib.Core.Bool.{Bool}
-use mathlib.Core.List.{List, [], ◌∷◌, ◌++◌}
+use mathlib.Core.List.{List, [], ◌∷◌, ◌++◌, append_assoc, append-nil}
 use Prim.Native.Nat.{ℕ, suc, ◌+◌, ◌-◌, ◌*◌, ◌/◌, ◌%◌, ◌^◌, ◌≤◌, ◌<◌, zero-le}
-use native.Mathlib.Nat.{add-zero, zero-add, add_assoc, mul_comm, add_comm, div-one, lt_of_lt_of_le}
+use native.Mathlib.Nat.{add-zero, zero-add, add_assoc, mul_comm, add_comm, div-one}
 use native.Mathlib.Numerals.{add-one}
 use native.Mathlib.Omega.{arith}
-use lib.ListN.{length, take, drop, get_or, drop_of_length-le}
-use lib.Pow.{pow_mono}
-use lib.Seq.{drop-cons, drop-drop}
+use lib.ListN.{length, take, drop, get_or, drop_of_length-le, length-append, length-take}
+use lib.Seq.{drop-cons, drop-drop, drop_at, take_all}
 use borrow.Author.Tests.{eq-eqb, ne_eqb}
 use Rattle.packed.specs.Format.{pick, widths, column_widths, total, data_len, le_value, short_width}
 use Rattle.packed.specs.Group.{Shortest}
 use Rattle.packed.specs.Calls.{tight_run, tight, loose, tightness_of}
-use Rattle.packed.proofs.Bytes.{Below, below-drop, byte_powers, le_value_head, le_value-below}
+use Rattle.packed.proofs.Bytes.{Below, below-drop, le_value-below}
 use Rattle.packed.proofs.Widths.{widths_next, widths_done, rest_next}
 
--- ---- a number put together from its high byte down: k of len bytes are left
+-- ---- a number put together from its high byte down: left are the bytes that are left
 
-pub record Gathering (bytes : List ℕ) (at len k value : ℕ) : Type 0 where
-  pub inside : k ≤ len
-  pub there : at + len ≤ length bytes
-  pub value_is : value ≡ le_value (take (len - k) (drop (at + k) bytes))
+pub record Gathering (bytes left : List ℕ) (value : ℕ) : Type 0 where
+  pub behind : List ℕ
+  pub whole : left ++ behind ≡ bytes
+  pub value_is : value ≡ le_value behind
 
-pub gathering_next : {bytes : List ℕ} {at len k value : ℕ} (b : ℕ) → Gathering bytes at len k value → 0 < k → b ≡ get_or bytes (at + (k - 1)) 0
-    → Gathering bytes at len (k - 1) (value * 256 + b)
-gathering_next {bytes} {at} {len} {k} {value} b g h eb =
-    let j : ℕ = k - 1 in
-    let more : suc (len - k) ≡ len - j = omega (arith, g.inside) in
-    let back : at + k ≡ at + j + 1 = omega arith in
-    let low : value ≡ le_value (take (len - k) (drop (at + j + 1) bytes)) =
-    g.value_is ∙ ap (λ (n : ℕ). le_value (take (len - k) (drop n bytes))) back in
-    record {
-      inside = omega (arith, g.inside);
-      there = g.there;
-      value_is = add_comm (value * 256) b ∙ ap (λ (n : ℕ). b + n) (mul_comm value 256) ∙ ap₂ (λ (x y : ℕ). x + 256 * y) eb low
-          ∙ sym (le_value_head (len - k) (at + j) bytes (omega (arith, g.inside, g.there)))
-          ∙ ap (λ (n : ℕ). le_value (take n (drop (at + j) bytes))) more;
-    }
+pub gathering_start : (bytes left : List ℕ) → left ≡ bytes → Gathering bytes left 0
+gathering_start bytes left e = record {
+  behind = [];
+  whole = append-nil left ∙ e;
+  value_is = refl;
+}
+
+pub gathering_next : {bytes left : List ℕ} {value : ℕ} (left' : List ℕ) (b : ℕ) → Gathering bytes left value → left ≡ left' ++ (b ∷ [])
+    → Gathering bytes left' (value * 256 + b)
+gathering_next {bytes} {left} {value} left' b g e = record {
+  behind = b ∷ g.behind;
+  whole = sym (append_assoc left' (b ∷ []) g.behind) ∙ ap (λ (l : List ℕ). l ++ g.behind) (sym e) ∙ g.whole;
+  value_is = add_comm (value * 256) b ∙ ap (λ (n : ℕ). b + n) (mul_comm value 256) ∙ ap (λ (n : ℕ). b + 256 * n) g.value_is;
+}
 
 -- it fits as many bytes as a number has
-gathering_fits : {bytes : List ℕ} {at len k value : ℕ} (w : ℕ) → Gathering bytes at len k value → Below 256 bytes → len ≤ w → value < 256 ^ w
-gathering_fits {bytes} {at} {len} {k} {value} w g b h =
-    let own : value < 256 ^ (len - k) =
-    subst (λ (n : ℕ). n < 256 ^ (len - k)) (sym g.value_is) (le_value-below (len - k) (drop (at + k) bytes) (below-drop 256 (at + k) bytes b)) in
-    let wider : 8 * (len - k) ≤ 8 * w = omega arith in
-    lt_of_lt_of_le own (rw (byte_powers (len - k), byte_powers w) (pow_mono wider))
+gathering_fits : {bytes left : List ℕ} {value : ℕ} (w : ℕ) → Gathering bytes left value → Below 256 bytes → length bytes ≤ w → value < 256 ^ w
+gathering_fits {bytes} {left} {value} w g b h =
+    let own : drop (length left) bytes ≡ g.behind = ap (drop (length left)) (sym g.whole) ∙ drop_at left g.behind (length left) refl in
+    let long : length left + length g.behind ≡ length bytes = sym (length-append left g.behind) ∙ ap length g.whole in
+    let all : take w g.behind ≡ g.behind = take_all w g.behind (omega (arith, long)) in
+    subst (λ (n : ℕ). n < 256 ^ w) (ap (λ (l : List ℕ). le_value (take w l)) own ∙ ap le_value all ∙ sym g.value_is)
+    (le_value-below w (drop (length left) bytes) (below-drop 256 (length left) bytes b))
 
-pub gathering_next_fits : {bytes : List ℕ} {at len k value : ℕ} (w : ℕ) → Gathering bytes at len k value → 0 < k → Below 256 bytes → len ≤ w
-    → value * 256 + get_or bytes (at + (k - 1)) 0 < 256 ^ w
-gathering_next_fits {bytes} {at} {len} {k} {value} w g h b n = gathering_fits w (gathering_next (get_or bytes (at + (k - 1)) 0) g h refl) b n
+pub gathering_next_fits : {bytes left : List ℕ} {value : ℕ} (left' : List ℕ) (b w : ℕ) → Gathering bytes left value → left ≡ left' ++ (b ∷ [])
+    → Below 256 bytes → length bytes ≤ w → value * 256 + b < 256 ^ w
+gathering_next_fits left' b w g e below h = gathering_fits w (gathering_next left' b g e) below h
+
+pub gathering_done : {bytes left : List ℕ} {value : ℕ} → Gathering bytes left value → length left ≡ 0 → value ≡ le_value bytes
+gathering_done {bytes} {left} {value} g none =
+    let all : g.behind ≡ bytes = sym (drop_at left g.behind 0 none) ∙ g.whole in
+    g.value_is ∙ ap le_value all
+
+-- a part from at to at + len: its number, and how long it is
+pub part_is : (bytes : List ℕ) (at len : ℕ) {value : ℕ} → value ≡ le_value (take (at + len - at) (drop at bytes)) → value ≡ le_value (take len (drop at bytes))
+part_is bytes at len e = let same : at + len - at ≡ len = omega arith in e ∙ ap (λ (n : ℕ). le_value (take n (drop at bytes))) same
+
+pub part-fits : (bytes : List ℕ) (at len w : ℕ) → len ≤ w → length (take (at + len - at) (drop at bytes)) ≤ w
+part-fits bytes at len w h = omega (arith, length-take (at + len - at) (drop at bytes), h)
 
 module _ (t : List ℕ) where
   -- ---- the run, one number more or stopped

@@ -4,3 +4,4 @@ pub mod Stages
 pub mod Refusals
 pub mod Calls
 pub mod Column
+pub mod Sinks

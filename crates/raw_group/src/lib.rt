@@ -1,4 +1,5 @@
-// One group of four numbers: encode, decode, delta and skip, the scalar part of `raw_group.rs`.
+// One group of four numbers: encode, decode, delta and skip, the scalar part of `raw_group.rs`. Where the Rust adds to a pointer, a slice and a
+// place come together: a type of the two would be made for each group and taken apart by each load and store.
 #![tactic(auto)]
 
 ghost use Rattle.std.specs.Prelude.{◌≡◌, ℕ, map, ◌+◌, ◌-◌, ◌*◌, ◌^◌, ◌<◌, ◌≤◌, length, take, drop, get_or};
@@ -22,8 +23,8 @@ pub fn store<E: Elem>(output: &mut [u8], at: usize, len: usize, value: E)
     requires few { len ≤ E.SIZE }
     ensures { output.new ≡ sets output.old at (le_bytes len (E.number value)) }
 {
-    for i in 0..len {
-        output[at + i] = value.byte(i);
+    for (i, byte) in output[at..at + len].iter_mut().enumerate() {
+        *byte = value.byte(i);
     }
 }
 
@@ -34,9 +35,9 @@ pub fn encode<D: CodingDescriptor>(output: &mut [u8], at: usize, group: [D::Elem
 {
     let mut tag = 0u8;
     let mut written = 0usize;
-    for i in 0..4 {
-        let vt = D::tag_value(group[i]);
-        store(output, at + written, vt.len, group[i]);
+    for value in &group {
+        let vt = D::tag_value(*value);
+        store(output, at + written, vt.len, *value);
         // The first of four fields ends in the two low bits.
         tag = tag / 4 + 64 * vt.tag;
         written += vt.len;
@@ -87,10 +88,10 @@ pub fn decode<D: CodingDescriptor>(input: &[u8], at: usize, tag: u8) -> (usize, 
     let mut buf = [D::Elem::zero(); 4];
     let mut read = 0usize;
     let mut rest = tag;
-    for i in 0..4 {
+    for value in buf.iter_mut() {
         let vtag = (rest % 4) as usize;
         let len = D::tag_len()[vtag];
-        buf[i] = number(input, at + read, len, D::tag_max()[vtag]);
+        *value = number(input, at + read, len, D::tag_max()[vtag]);
         read += len;
         rest = rest / 4;
     }
@@ -125,11 +126,7 @@ pub fn decode_deltas<D: CodingDescriptor>(
 pub fn sum<E: Elem>(group: [E; 4]) -> E
     ensures { E.number result ≡ wrapping_sum E.modulus (map E.number group) }
 {
-    let mut s = E::zero();
-    for i in 0..4 {
-        s = s.wrapping_add(group[i]);
-    }
-    s
+    group.iter().fold(E::zero(), |s, v| s.wrapping_add(*v))
 }
 
 // Skips the group of deltas with tag at input. Returns the number of bytes read and the sum of the delta values.

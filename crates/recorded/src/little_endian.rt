@@ -1,4 +1,4 @@
-// Numbers that stand low byte first. What is read past an end is 0.
+// Numbers that stand low byte first. What is read past an end is 0. `from_le_bytes` is a method of each type, so each width has a line.
 use std::array;
 
 fn bytes_at<const N: usize>(s: &[u8], at: usize) -> [u8; N] {

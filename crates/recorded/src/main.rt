@@ -35,6 +35,7 @@ fn replay(rt: &impl Print, records: &[u8], count: u32, kind: Kind) -> Tally
     let mut found = 0;
     let mut differ = 0;
     let mut rest = records;
+    // The file says how many records there are; each is found behind the one before, and its number is printed.
     for k in 0..u64::from(count) {
         let Some((record, behind)) = Record::split_first(rest) else {
             break;

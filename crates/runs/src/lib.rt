@@ -1,14 +1,63 @@
 // Runs over the groups from `from` up to `to`, eight at once and one by one. The bytes of a run start at `at`, and each of its groups has
-// a whole widest group's bytes before the end of the data.
+// a whole widest group's bytes before the end of the data. What is made of the groups is a sink's, as in the Rust.
 #![tactic(auto)]
 
-ghost use Rattle.std.specs.Prelude.{◌≡◌, map, ◌+◌, ◌*◌, ◌%◌, ◌≤◌, length, get_or};
-ghost use Rattle.std.proofs.lemmas.List.Edits.{sets};
-ghost use Rattle.packed.specs.Column.{Windows, Runs, RunsDeltas, RunsSum};
+mod deltas;
+mod skipped;
+mod values;
 
-use coding_descriptor::CodingDescriptor;
+ghost use Rattle.std.specs.Prelude.{◌≡◌, List, ℕ, map, ◌+◌, ◌*◌, ◌%◌, ◌≤◌, length, drop};
+ghost use Rattle.std.proofs.lemmas.List.Edits.{sets};
+ghost use Rattle.packed.specs.Format.{total, widths, numbers};
+ghost use Rattle.packed.specs.Column.{Windows};
+ghost use Rattle.packed.specs.Sinks.{Sinks, Made};
+
+pub use deltas::Deltas;
 use elem::Elem;
 use fast_decode::FastDecode;
+pub use skipped::Skipped;
+pub use values::Values;
+
+// What a run makes of its groups, as the Rust's `DecodeSink`. It carries an element from one group to the next. The values are passed beside
+// it, so that the sink itself is a name alone, and nothing is left of it when it runs.
+pub trait Sink<D: FastDecode> {
+    // Whether so many values have room for so many groups.
+    ghost Fits: { ℕ → ℕ → Type 0 };
+
+    // What became of numbers: of them, the values before, where they belong among these, what was carried, the values after, and what is
+    // carried then.
+    ghost Took: { List ℕ → List ℕ → ℕ → ℕ → List ℕ → ℕ → Type 0 };
+
+    // Takes the i-th group, with tag, from data, from at on. Returns the number of bytes read and what is carried on.
+    fn handle1(
+        data: &[u8],
+        at: usize,
+        tag: u8,
+        carried: D::Elem,
+        values: &mut [D::Elem],
+        i: usize,
+    ) -> (usize, D::Elem)
+        requires window { at + 4 * D.Elem.SIZE ≤ length «data».now }
+        requires room { Fits (length values.old) (i + 1) }
+        ensures read { result.0 ≡ total (widths D.table tag) }
+        ensures took { Took (numbers (widths D.table tag) (drop at «data».now)) (map D.Elem.number values.old) (4 * i) (D.Elem.number carried) (map D.Elem.number values.new) (D.Elem.number result.1) };
+
+    // The same by tables, for one of eight groups.
+    fn handle8(
+        data: &[u8],
+        at: usize,
+        tag: u8,
+        carried: D::Elem,
+        values: &mut [D::Elem],
+        i: usize,
+    ) -> (usize, D::Elem)
+        requires window { at + 4 * D.Elem.SIZE ≤ length «data».now }
+        requires room { Fits (length values.old) (i + 1) }
+        ensures read { result.0 ≡ total (widths D.table tag) }
+        ensures took { Took (numbers (widths D.table tag) (drop at «data».now)) (map D.Elem.number values.old) (4 * i) (D.Elem.number carried) (map D.Elem.number values.new) (D.Elem.number result.1) };
+
+    ghost laws: { Sinks D.Elem.modulus Fits Took };
+}
 
 // Stores a group of 4 elements from at on, one by one: `copy_from_slice` would leave a comparison of addresses in each round of the hot loops,
 // which took a third more time.
@@ -22,188 +71,72 @@ fn store_group<E: Elem>(values: &mut [E], at: usize, group: [E; 4])
     values[at + 3] = group[3];
 }
 
-// Decode 8 groups, from the i-th on, and store them. Returns where they end in the data.
-fn decode8<D: FastDecode>(
+// Takes 8 groups, from the i-th on. Returns where they end in the data and what is carried on.
+fn eight<D: FastDecode, S: Sink<D>>(
     tags: &[u8],
     i: usize,
     data: &[u8],
     at: usize,
+    start: D::Elem,
     values: &mut [D::Elem],
-) -> usize
+) -> (usize, D::Elem)
     requires windows { Windows D.table tags.now «data».now i (i + 8) at }
-    requires i_in_bounds { 4 * (i + 8) ≤ length values.old }
-    ensures { Runs D.table tags.now «data».now (map D.Elem.number values.old) i (i + 8) at result (map D.Elem.number values.new) }
+    requires room { S.Fits (length values.old) (i + 8) }
+    ensures { Made D.table S.Took tags.now «data».now (map D.Elem.number values.old) i (i + 8) at (D.Elem.number start) result.0 (map D.Elem.number values.new) (D.Elem.number result.1) }
 {
     let mut read = at;
+    let mut carried = start;
+    // By place, as in `singles`.
     for k in 0..8 {
-        let (len, group) = fast_decode::decode::<D>(data, read, tags[i + k]);
-        store_group(values, 4 * (i + k), group);
+        let (len, next) = S::handle8(data, read, tags[i + k], carried, values, i + k);
         read += len;
+        carried = next;
     }
-    read
+    (read, carried)
 }
 
 // Eight tags at once.
-pub fn decode_eights<D: FastDecode>(
+pub fn eights<D: FastDecode, S: Sink<D>>(
     tags: &[u8],
     to: usize,
     data: &[u8],
-    values: &mut [D::Elem],
-) -> usize
-    requires windows { Windows D.table tags.now «data».now 0 to 0 × (to % 8 ≡ 0) }
-    requires to_in_bounds { 4 * to ≤ length values.old }
-    ensures { Runs D.table tags.now «data».now (map D.Elem.number values.old) 0 to 0 result (map D.Elem.number values.new) }
-{
-    let mut read = 0usize;
-    for i in (0..to).step_by(8) {
-        read = decode8::<D>(tags, i, data, read, values);
-    }
-    read
-}
-
-// Single tags.
-pub fn decode_singles<D: CodingDescriptor>(
-    tags: &[u8],
-    from: usize,
-    to: usize,
-    data: &[u8],
-    at: usize,
-    values: &mut [D::Elem],
-) -> usize
-    requires windows { Windows D.table tags.now «data».now from to at }
-    requires to_in_bounds { 4 * to ≤ length values.old }
-    ensures { Runs D.table tags.now «data».now (map D.Elem.number values.old) from to at result (map D.Elem.number values.new) }
-{
-    let mut read = at;
-    for i in from..to {
-        let (len, group) = raw_group::decode::<D>(data, read, tags[i]);
-        store_group(values, 4 * i, group);
-        read += len;
-    }
-    read
-}
-
-// Decode 8 groups as deltas from base and store them. Returns where they end in the data and the last decoded group.
-fn decode_deltas8<D: FastDecode>(
-    tags: &[u8],
-    i: usize,
-    data: &[u8],
-    at: usize,
-    base: [D::Elem; 4],
-    values: &mut [D::Elem],
-) -> (usize, [D::Elem; 4])
-    requires windows { Windows D.table tags.now «data».now i (i + 8) at }
-    requires i_in_bounds { 4 * (i + 8) ≤ length values.old }
-    ensures { RunsDeltas D.table tags.now «data».now (map D.Elem.number values.old) D.Elem.modulus i (i + 8) at (get_or (map D.Elem.number base) 3 0) result.0 (get_or (map D.Elem.number result.1) 3 0) (map D.Elem.number values.new) }
-{
-    let mut read = at;
-    let mut prev = base;
-    for k in 0..8 {
-        let (len, group) = fast_decode::decode_deltas::<D>(data, read, tags[i + k], prev);
-        store_group(values, 4 * (i + k), group);
-        read += len;
-        prev = group;
-    }
-    (read, prev)
-}
-
-// Eight tags at once, as deltas from base.
-pub fn decode_deltas_eights<D: FastDecode>(
-    tags: &[u8],
-    to: usize,
-    data: &[u8],
-    base: [D::Elem; 4],
-    values: &mut [D::Elem],
-) -> (usize, [D::Elem; 4])
-    requires windows { Windows D.table tags.now «data».now 0 to 0 × (to % 8 ≡ 0) }
-    requires to_in_bounds { 4 * to ≤ length values.old }
-    ensures { RunsDeltas D.table tags.now «data».now (map D.Elem.number values.old) D.Elem.modulus 0 to 0 (get_or (map D.Elem.number base) 3 0) result.0 (get_or (map D.Elem.number result.1) 3 0) (map D.Elem.number values.new) }
-{
-    let mut read = 0usize;
-    let mut prev = base;
-    for i in (0..to).step_by(8) {
-        (read, prev) = decode_deltas8::<D>(tags, i, data, read, prev, values);
-    }
-    (read, prev)
-}
-
-// Single tags, as deltas from base.
-pub fn decode_deltas_singles<D: CodingDescriptor>(
-    tags: &[u8],
-    from: usize,
-    to: usize,
-    data: &[u8],
-    at: usize,
-    base: [D::Elem; 4],
-    values: &mut [D::Elem],
-) -> (usize, [D::Elem; 4])
-    requires windows { Windows D.table tags.now «data».now from to at }
-    requires to_in_bounds { 4 * to ≤ length values.old }
-    ensures { RunsDeltas D.table tags.now «data».now (map D.Elem.number values.old) D.Elem.modulus from to at (get_or (map D.Elem.number base) 3 0) result.0 (get_or (map D.Elem.number result.1) 3 0) (map D.Elem.number values.new) }
-{
-    let mut read = at;
-    let mut prev = base;
-    for i in from..to {
-        let (len, group) = raw_group::decode_deltas::<D>(data, read, tags[i], prev);
-        store_group(values, 4 * i, group);
-        read += len;
-        prev = group;
-    }
-    (read, prev)
-}
-
-// Skip 8 groups as deltas. Returns where they end in the data and the sum with theirs added.
-fn skip_deltas8<D: FastDecode>(
-    tags: &[u8],
-    i: usize,
-    data: &[u8],
-    at: usize,
     start: D::Elem,
+    values: &mut [D::Elem],
 ) -> (usize, D::Elem)
-    requires { Windows D.table tags.now «data».now i (i + 8) at }
-    ensures { RunsSum D.table tags.now «data».now D.Elem.modulus i (i + 8) at (D.Elem.number start) result.0 (D.Elem.number result.1) }
-{
-    let mut read = at;
-    let mut sum = start;
-    for k in 0..8 {
-        let (len, s) = fast_decode::skip_deltas::<D>(data, read, tags[i + k]);
-        read += len;
-        sum = sum.wrapping_add(s);
-    }
-    (read, sum)
-}
-
-// Eight tags at once, skipped.
-pub fn skip_deltas_eights<D: FastDecode>(tags: &[u8], to: usize, data: &[u8]) -> (usize, D::Elem)
-    requires { Windows D.table tags.now «data».now 0 to 0 × (to % 8 ≡ 0) }
-    ensures { RunsSum D.table tags.now «data».now D.Elem.modulus 0 to 0 0 result.0 (D.Elem.number result.1) }
+    requires windows { Windows D.table tags.now «data».now 0 to 0 × (to % 8 ≡ 0) }
+    requires room { S.Fits (length values.old) to }
+    ensures { Made D.table S.Took tags.now «data».now (map D.Elem.number values.old) 0 to 0 (D.Elem.number start) result.0 (map D.Elem.number values.new) (D.Elem.number result.1) }
 {
     let mut read = 0usize;
-    let mut sum = D::Elem::zero();
+    let mut carried = start;
+    // By place, as in `singles`.
     for i in (0..to).step_by(8) {
-        (read, sum) = skip_deltas8::<D>(tags, i, data, read, sum);
+        (read, carried) = eight::<D, S>(tags, i, data, read, carried, values);
     }
-    (read, sum)
+    (read, carried)
 }
 
-// Single tags, skipped.
-pub fn skip_deltas_singles<D: CodingDescriptor>(
+// Single tags. An index and no iterator over `tags[from..to]`, since it is the group's place among the values too.
+// A struct of the five, with windows as its fact, proves but is no plainer: here alone all five are taken, and each call writes it out.
+pub fn singles<D: FastDecode, S: Sink<D>>(
     tags: &[u8],
     from: usize,
     to: usize,
     data: &[u8],
     at: usize,
     start: D::Elem,
+    values: &mut [D::Elem],
 ) -> (usize, D::Elem)
-    requires { Windows D.table tags.now «data».now from to at }
-    ensures { RunsSum D.table tags.now «data».now D.Elem.modulus from to at (D.Elem.number start) result.0 (D.Elem.number result.1) }
+    requires windows { Windows D.table tags.now «data».now from to at }
+    requires room { S.Fits (length values.old) to }
+    ensures { Made D.table S.Took tags.now «data».now (map D.Elem.number values.old) from to at (D.Elem.number start) result.0 (map D.Elem.number values.new) (D.Elem.number result.1) }
 {
     let mut read = at;
-    let mut sum = start;
+    let mut carried = start;
     for i in from..to {
-        let (len, s) = raw_group::skip_deltas::<D>(data, read, tags[i]);
+        let (len, next) = S::handle1(data, read, tags[i], carried, values, i);
         read += len;
-        sum = sum.wrapping_add(s);
+        carried = next;
     }
-    (read, sum)
+    (read, carried)
 }

@@ -1,4 +1,5 @@
-// Lengths of runs of tags, and where the three stages end. No data byte is looked at.
+// Lengths of runs of tags, and where the three stages end. No data byte is looked at. That the tags are within the limit keeps each sum in its
+// type; the calls check it first of all, and a type of such tags would be opened by each function here to say it.
 #![tactic(auto)]
 
 mod coder0124;
@@ -66,6 +67,7 @@ fn data_len_fours<D: SideBySide>(tags: &[u8], from: usize, fours: usize) -> u32
     ensures { Measured D.table tags.now from (from + 4 * fours) result }
 {
     let mut len = 0u32;
+    // Over places: a part of four tags would have to become an array first, which is no plainer.
     for k in 0..fours {
         len += D::data_len4_side_by_side(tags4(tags, from + 4 * k));
     }
@@ -118,6 +120,7 @@ fn eights_end<D: SideBySide>(tags: &[u8], data: &[u8]) -> End
     let front = front_end::<D>(tags, data);
     let mut read = front.read;
     let eights = tags.len() / 8;
+    // By place, since the place where it stops is the answer.
     for k in front.groups / 8..eights {
         let len8 = data_len8::<D>(tags, 8 * k);
         if read + len8 + slack::<D>() > data.len() {
@@ -140,6 +143,7 @@ fn singles_end<D: CodingDescriptor>(tags: &[u8], data: &[u8], from: End) -> End
     ensures { EndsAt D.table tags.now «data».now (from.groups + singles D.table (drop from.groups tags.now) (length «data».now - from.read)) result.groups result.read }
 {
     let mut read = from.read;
+    // By place, since the place where it stops is the answer.
     for i in from.groups..tags.len() {
         if read + D::Elem::SIZE * 4 > data.len() {
             return End { groups: i, read };

@@ -1,7 +1,7 @@
 // The tightness check, below its refusals. It is ours: the Rust has none.
 #![tactic(auto)]
 
-ghost use Rattle.std.specs.Prelude.{◌≡◌, ◌+◌, ◌≤◌, length, take, drop};
+ghost use Rattle.std.specs.Prelude.{◌≡◌, ◌≤◌, length};
 ghost use Rattle.packed.specs.Format.{le_value, data_len};
 ghost use Rattle.packed.specs.Calls.{tightness_of};
 ghost use Rattle.answers.specs.Meaning.{place_of};
@@ -10,14 +10,15 @@ use answers::Place;
 use coding_descriptor::CodingDescriptor;
 use elem::Elem;
 
-// The number of len bytes from at on, low byte first, those bytes alone: the last number may end with the data.
-fn stored_number<E: Elem>(data: &[u8], at: usize, len: usize) -> E
-    requires { (at + len ≤ length «data».now) × (len ≤ E.SIZE) }
-    ensures { E.number result ≡ le_value (take len (drop at «data».now)) }
+// The number of these bytes, low byte first, those bytes alone: the last number may end with the data.
+fn stored_number<E: Elem>(bytes: &[u8]) -> E
+    requires { length bytes.now ≤ E.SIZE }
+    ensures { E.number result ≡ le_value bytes.now }
 {
     let mut value = E::zero();
-    for k in (0..len).rev() {
-        value = value.with_low_byte(data[at + k]);
+    // No `fold`: that the next byte fits, which with_low_byte asks, is known of the loop's value alone.
+    for byte in bytes.iter().rev() {
+        value = value.with_low_byte(*byte);
     }
     value
 }
@@ -30,9 +31,10 @@ pub fn first_loose<D: CodingDescriptor>(tags: &[u8], data: &[u8]) -> Option<Plac
     let mut at = 0usize;
     for (group, tag) in tags.iter().enumerate() {
         let mut rest = *tag;
+        // position is a part of the answer and indexes nothing: an array of the tag's four lengths would be made for this loop alone
         for position in 0..4 {
             let len = D::tag_len()[(rest % 4) as usize];
-            let value = stored_number(data, at, len);
+            let value = stored_number(&data[at..at + len]);
             if len != D::tag_value(value).len {
                 return Some(Place { group, position });
             }

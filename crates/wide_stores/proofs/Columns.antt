@@ -9,15 +9,14 @@ use lib.Dec.{T}
 use lib.ListN.{length, take, drop, get_or, set, length-append, length-take, length-drop, length-set, drop_of_length-le}
 use lib.Seq.{sets, drop-drop, take-add, take_all}
 use Rattle.std.proofs.lemmas.List.{drop-map}
-use Rattle.packed.specs.Format.{le_bytes, short_width, tag_of, tags_of, bytes_of, steps}
+use Rattle.packed.specs.Format.{le_bytes, short_width, tag_of, tags_of, bytes_of}
 use Rattle.packed.specs.Group.{Shortest, Encodes}
 use Rattle.packed.specs.Stages.{widest_group}
 use Rattle.packed.specs.Column.{RunsEncode}
 use Rattle.packed.proofs.Bytes.{le_bytes-length}
-use Rattle.packed.proofs.Encodes.{tags-length, bytes_append, bytes_more, encode_more, groups_most, steps-take, steps-drop}
-use Rattle.packed.proofs.Deltas.{last_of}
+use Rattle.packed.proofs.Encodes.{tags-length, bytes_append, bytes_more, encode_more, groups_most}
 use Rattle.packed.proofs.Ends.{Table, at_least}
-use Rattle.packed.proofs.Fours.{four_of, four_is, last_of_four}
+use Rattle.packed.proofs.Fours.{four_of, four_is}
 use Rattle.packed.proofs.Loops.{all_le}
 use Rattle.packed.proofs.Table.{every}
 use Rattle.packed.proofs.Widths.{top, short_width_is}
@@ -118,11 +117,6 @@ module _ (t : List ℕ) (n : ℕ) where
     pub same_bytes : length bytes ≡ length bytes₀
     pub runs : RunsWide t n ds tags₀ bytes₀ i written tags bytes
 
-  -- of deltas: the steps that are left go on from base
-  pub record RunningWideSteps (m p : ℕ) (values tags₀ bytes₀ : List ℕ) (to i written : ℕ) (base tags bytes : List ℕ) : Type 0 where
-    pub running : RunningWide (steps m p values) tags₀ bytes₀ to i written tags bytes
-    pub left : steps m (get_or base 3 0) (drop (4 * i) values) ≡ drop (4 * i) (steps m p values)
-
 module _ (t : List ℕ) (is : Table t) {n : ℕ} where
   -- one group more
   runs_more : {ds tags bytes tags' bytes' : List ℕ} {i written : ℕ} (group : List ℕ) (tag len : ℕ) (tags'' bytes'' : List ℕ)
@@ -160,23 +154,6 @@ module _ (t : List ℕ) (is : Table t) {n : ℕ} where
         same-tags = ap length et ∙ length-set tags i tag ∙ r.same-tags;
         same_bytes = e.lays.same ∙ r.same_bytes;
         runs = runs';
-      }
-
-  pub running_wide_steps_next : {m p : ℕ} {values tags₀ bytes₀ base tags bytes : List ℕ} {to i written : ℕ} (group : List ℕ) (tag len : ℕ) (tags' bytes' : List ℕ)
-      → RunningWideSteps t n m p values tags₀ bytes₀ to i written base tags bytes → i < to → length group ≡ 4 → group ≡ take 4 (drop (4 * i) values)
-      → EncodesWide t n (steps m (get_or base 3 0) group) bytes written tag len bytes' → tags' ≡ set tags i tag
-      → RunningWideSteps t n m p values tags₀ bytes₀ to (i + 1) (written + len) group tags' bytes'
-  running_wide_steps_next {m} {p} {values} {tags₀} {bytes₀} {base} {tags} {bytes} {to} {i} {written} group tag len tags' bytes' r h four eg e et =
-      let b : ℕ = get_or base 3 0 in
-      let stepped : steps m b group ≡ take 4 (drop (4 * i) (steps m p values)) =
-      ap (steps m b) eg ∙ sym (steps-take m b 4 (drop (4 * i) values)) ∙ ap (take 4) r.left in
-      let place : 4 * i + 4 ≡ 4 * (i + 1) = omega arith in
-      record {
-        running = running_wide_next (steps m b group) tag len tags' bytes' r.running h stepped e et;
-        left = ap₂ (λ (x : ℕ) (l : List ℕ). steps m x l) (last_of_four b group four ∙ ap (last_of b) eg)
-            (ap (λ (k : ℕ). drop k values) (sym place) ∙ sym (drop-drop 4 (4 * i) values))
-            ∙ sym (steps-drop m b 4 (drop (4 * i) values)) ∙ ap (drop 4) r.left
-            ∙ drop-drop 4 (4 * i) (steps m p values) ∙ ap (λ (k : ℕ). drop k (steps m p values)) place;
       }
 
 -- ---- the front by whole words, and the rest exactly

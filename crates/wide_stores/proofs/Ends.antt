@@ -14,7 +14,7 @@ use Rattle.packed.specs.Stages.{widest_group}
 use Rattle.packed.specs.Column.{RunsEncode}
 use Rattle.packed.proofs.Bytes.{Below, byte_power_pos}
 use Rattle.packed.proofs.Deltas.{last_of}
-use Rattle.packed.proofs.Encodes.{steps-take, steps-drop}
+use Rattle.packed.proofs.Encodes.{steps-drop}
 use Rattle.packed.proofs.Ends.{Table}
 use Rattle.packed.proofs.Fours.{four_of, four_is}
 use Rattle.packed.proofs.Widths.{top, widths_of_tag, bytes_length}
@@ -87,19 +87,6 @@ steps_from m p (suc at) vs pos h =
     let place : suc at - 1 ≡ at = omega arith in
     ap (λ (k : ℕ). steps m (get_or vs k 0) (drop (suc at) vs)) place ∙ ap (λ (k : ℕ). steps m k (drop (suc at) vs)) (sym (last_before p at vs (omega arith)))
     ∙ sym (steps-drop m p (suc at) vs)
-
--- one group's steps, from the value before it on
-pub steps_of_group : (m before at : ℕ) (values ds group : List ℕ) → steps m before (drop at values) ≡ drop at ds → group ≡ take 4 (drop at values)
-    → steps m before group ≡ take 4 (drop at ds)
-steps_of_group m before at values ds group e eg = ap (steps m before) eg ∙ sym (steps-take m before 4 (drop at values)) ∙ ap (take 4) e
-
--- the search among steps: `before` is the value before the group
-pub covering_next_steps : (t vs : List ℕ) (m p n groups : ℕ) {front uncovered : ℕ} (before back len left : ℕ) (group ds : List ℕ)
-    → Covering t (steps m p vs) n groups front uncovered → front ≡ back + 1 → steps m before (drop (4 * back) vs) ≡ drop (4 * back) (steps m p vs)
-    → group ≡ take 4 (drop (4 * back) vs) → ds ≡ steps m before group → len ≡ length (bytes_of t ds) → left ≡ uncovered - len
-    → Covering t (steps m p vs) n groups back left
-covering_next_steps t vs m p n groups before back len left group ds s e eb eg ed el ev =
-    covering_next t (steps m p vs) n groups back len left ds s e (ed ∙ steps_of_group m before (4 * back) vs (steps m p vs) group eb eg) el ev
 
 -- the first groups by whole words and the rest exactly, with the end that was found
 pub wide_then_covered : (t : List ℕ) (is : Table t) {n : ℕ} {ds tags bytes tags₁ bytes₁ : List ℕ} {front written : ℕ} (to written₂ : ℕ) (ds₂ tags₂ bytes₂ : List ℕ)

@@ -1,3 +1,4 @@
 pub mod Lays
 pub mod Columns
 pub mod Ends
+pub mod Sinks

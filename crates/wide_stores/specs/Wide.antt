@@ -3,7 +3,7 @@
 use Rattle.std.specs.Prelude.{◌≡◌, List, ◌++◌, ℕ, zero, suc, ◌+◌, ◌-◌, ◌*◌, ◌/◌, ◌^◌, ◌≤◌, ◌<◌, length, take, drop, get_or}
 use Rattle.std.specs.Int.Count.{count_leading_zeros}
 use Rattle.std.proofs.lemmas.List.Edits.{sets}
-use Rattle.packed.specs.Format.{le_bytes, tag_of, tags_of, bytes_of, steps}
+use Rattle.packed.specs.Format.{le_bytes, tag_of, tags_of, bytes_of}
 use Rattle.packed.specs.Group.{Shortest}
 use Rattle.packed.specs.Stages.{widest_group}
 
@@ -44,10 +44,9 @@ pub record RunsWide (t : List ℕ) (n : ℕ) (ds tags bytes : List ℕ) (groups 
   pub tags_are : tags' ≡ sets tags 0 (tags_of t groups ds)
   pub lays : Lays (excess n groups) bytes 0 (bytes_of t (take (4 * groups) ds)) bytes'
 
--- The same of the steps of values from p on; those that are left go on from the last value.
-pub record RunsWideSteps (t : List ℕ) (n m p : ℕ) (values tags bytes : List ℕ) (groups r_written r_last : ℕ) (tags' bytes' : List ℕ) : Type 0 where
-  pub runs : RunsWide t n (steps m p values) tags bytes groups r_written tags' bytes'
-  pub left : steps m r_last (drop (4 * groups) values) ≡ drop (4 * groups) (steps m p values)
+-- A tag for each group of the values, and the bytes of the widest for each.
+abbrev pub HasRoom : {E : Type 0} → List ℕ → List E → List ℕ → List ℕ → Type 0
+HasRoom t values tags bytes = (length values / 4 ≤ length tags) × (widest_group t * (length values / 4) ≤ length bytes)
 
 -- Where a run by whole words may end: what it leaves is covered by the groups behind it.
 pub record Covers (t : List ℕ) (n : ℕ) (ds : List ℕ) (groups front : ℕ) : Type 0 where

@@ -17,15 +17,15 @@ ready_ends-requires-after_bounds g c κs within =
     let says = decoding_says t c.args.tags.now c.args.«data».now vs _ (length-map c.args.values.now e.number) c.in_ok-count_verdict.ensures in
     (matched (walked e.modulus (e.number c.args.initial)) t c.args.tags.now c.args.«data».now vs (sym says)).1
 
-pub decode_deltas_stages-read-requires-after_bounds : goal.decode_deltas_stages-read-requires-after_bounds
-decode_deltas_stages-read-requires-after_bounds g c κs within =
+pub decode_deltas_stages-read-requires-clause-tags_in_bounds : goal.decode_deltas_stages-read-requires-clause-tags_in_bounds
+decode_deltas_stages-read-requires-clause-tags_in_bounds g c κs within =
     let t = g.C.CodingDescriptor.table in
     let e = g.C.Elem.Elem in
     let vs : List ℕ = map e.number c.args.values.now in
     let l : Lent = lent_to_decode (length vs) c.args.tags.now (length c.args.«data».now) in
     let says = decoding_says t c.args.tags.now c.args.«data».now vs _ (length-map c.args.values.now e.number) c.in_ok-count_verdict.ensures in
     let fits = (matched (walked e.modulus (e.number c.args.initial)) t c.args.tags.now c.args.«data».now vs (sym says)).0 in
-    (g.met.C.Elem.Elem.small, (c.in_ok-ends.ensures.ready, omega (arith, fits, length-map c.args.values.now e.number)))
+    omega (arith, fits, length-map c.args.values.now e.number)
 
 pub returns-in_err-count_verdict : goal.returns-in_err-count_verdict
 returns-in_err-count_verdict g c =

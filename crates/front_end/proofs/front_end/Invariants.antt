@@ -1,4 +1,4 @@
-use Rattle.std.proofs.Common.{map}
+use Rattle.std.proofs.Common.{◌/◌, length, map}
 use Rattle.wide_stores.specs.Wide.{left_behind}
 use Rattle.wide_stores.proofs.Ends.{Covering}
 use Rattle.front_end.proofs.front_end.Given as goal
@@ -6,4 +6,4 @@ use Rattle.front_end.proofs.front_end.Given as goal
 abbrev pub invariant-loop-front : goal.invariant-loop-front
 invariant-loop-front g l =
     let t = g.D.CodingDescriptor.table in
-    Covering t (map g.D.Elem.Elem.number l.values) (left_behind t) l.groups l.front l.uncovered
+    Covering t (g.S.EncodeSink.stored l.fn.start (map g.D.Elem.Elem.number l.values)) (left_behind t) (length l.values / 4) l.front l.uncovered

@@ -10,7 +10,7 @@ number-requires-clause-mask g c κs within =
     let e = g.D.Elem.Elem in
     let t = g.D.CodingDescriptor.table in
     let laws = g.met.D.CodingDescriptor in
-    let f : ℕ = c.loop-i.rest % 4 in
+    let f : ℕ = c.loop-value.rest % 4 in
     let four : length c.tag_max.result.now ≡ 4 = sym (length-map c.tag_max.result.now e.number) ∙ ap length c.tag_max.ensures ∙ length-map t _ ∙ laws.is_table.four in (
       lent-width e.SIZE t _ f (widths_fit t e.SIZE laws.is_table laws.widest) c.tag_len.ensures,
       number_at e.number c.tag_max.result.now f _ (omega (arith, four)) ∙ lent_mask t _ _ f c.tag_len.ensures c.tag_max.ensures,
@@ -21,16 +21,16 @@ overflow_add-read g c =
     let e = g.D.Elem.Elem in
     let t = g.D.CodingDescriptor.table in
     let laws = g.met.D.CodingDescriptor in
-    let width = lent-width e.SIZE t _ (c.loop-i.rest % 4) (widths_fit t e.SIZE laws.is_table laws.widest) c.tag_len.ensures in
-    record { fits = grind (arith, c.loop-i.invariant.room, width, c.requires, c.loop-i-test.true) }
+    let width = lent-width e.SIZE t _ (c.loop-value.rest % 4) (widths_fit t e.SIZE laws.is_table laws.widest) c.tag_len.ensures in
+    record { fits = grind (arith, c.loop-value.invariant.room, width, c.requires, c.loop-value-test.true) }
 
-pub loop-i-preserved : goal.loop-i-preserved
-loop-i-preserved g c =
+pub loop-value-preserved : goal.loop-value-preserved
+loop-value-preserved g c =
     let e = g.D.Elem.Elem in
     let t = g.D.CodingDescriptor.table in
     let laws = g.met.D.CodingDescriptor in
-    rw (map-set e.number c.loop-i.buf c.loop-i.i c.number.result)
-    (decoding_next (e.number c.number.result) c.loop-i.invariant c.loop-i-test.true (widths_fit t e.SIZE laws.is_table laws.widest) _ c.tag_len.ensures c.number.ensures)
+    rw (map-set e.number c.loop-value.value-items c.loop-value.value-index c.number.result)
+    (decoding_next (e.number c.number.result) c.loop-value.invariant c.loop-value-test.true (widths_fit t e.SIZE laws.is_table laws.widest) _ c.tag_len.ensures c.number.ensures)
 
 pub returns : goal.returns
-returns g c = decoding_done c.loop-i.invariant c.loop-i-test.false
+returns g c = decoding_done c.loop-value.invariant c.loop-value-test.false

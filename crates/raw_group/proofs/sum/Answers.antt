@@ -1,18 +1,15 @@
--- `sum` meets its contract: by the laws of its loop.
-use Rattle.std.proofs.Common.{map, rules, ap, ◌+◌, ◌%◌, ◌∙◌}
-use Rattle.std.proofs.lemmas.List.{length-map}
-use Rattle.elem.proofs.Elems.{modulus_pos, number_at}
-use Rattle.packed.proofs.Loops.{summing_start, summing_next}
+-- `sum` meets its contract: each call of the closure adds one number more.
+use Rattle.std.proofs.Common.{map, rules, subst, ◌≡◌, ◌∙◌}
+use Rattle.std.proofs.lemmas.List.{map-append}
+use Rattle.std.proofs.lemmas.Fn.{fold_over, slice_gives, fronts}
+use Rattle.packed.specs.Format.{wrapping_sum}
+use Rattle.packed.proofs.Loops.{sum_start, sum_next}
 use Rattle.raw_group.proofs.sum.Goals as goal
 
-pub loop-i-init : goal.loop-i-init
-loop-i-init g c =
+pub returns : goal.returns
+returns g c =
     let e = g.E.Elem in
-    rw c.zero-s.ensures (summing_start (map e.number c.args.group) e.modulus (modulus_pos e.modulus e.SIZE g.met.E.Elem.wraps))
-
-pub loop-i-preserved : goal.loop-i-preserved
-loop-i-preserved g c =
-    let e = g.E.Elem in
-    let read = number_at e.number c.args.group c.loop-i.i _ (search rules) in
-    summing_next _ c.loop-i.invariant c.loop-i-test.true (rw length-map (search rules))
-    (c.wrapping_add-s.ensures ∙ ap (λ n. (e.number c.loop-i.s + n) % e.modulus) read)
+    subst (λ l. e.number c.fold.result ≡ wrapping_sum e.modulus (map e.number l)) c.iter.ensures.rest
+    (fold_over fronts (λ y. y.now) _ (λ ys a. e.number a ≡ wrapping_sum e.modulus (map e.number ys)) _
+    (λ ys a x b f' j k. let next = sum_next e.modulus (map e.number ys) (e.number a) (e.number x.now) j in rw map-append (search rules))
+    _ _ _ _ (slice_gives c.iter.result) (c.zero.ensures ∙ sum_start e.modulus) c.fold.ensures.ran)
