@@ -71,12 +71,12 @@ impl<'a> Case<'a> {
         text::decimal(self.word(part, index))
     }
 
-    // A part's bytes, and then 0.
+    // A part's bytes, and then 0: of fixed size, since nothing here allocates.
     pub fn bytes(self, part: Part) -> [u8; 80] {
         array::from_fn(|i| self.byte(part, i))
     }
 
-    // A part's numbers, and then 0.
+    // A part's numbers, and then 0: of fixed size too.
     pub fn numbers<E: Number>(self, part: Part) -> [E; 80] {
         array::from_fn(|i| E::wrapping_from(self.number(part, i)))
     }

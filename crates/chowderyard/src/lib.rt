@@ -51,6 +51,7 @@ impl From<Result<usize, Refusal>> for Answer {
     }
 }
 
+// The refusing arm stands twice: a conversion of a refusal alone would have a law of its own for two callers.
 impl<E: Elem> From<Result<Skipped<E>, Refusal>> for Answer {
     ghost from_gives = { λ given made. answered made ≡ skipped E.number given };
 

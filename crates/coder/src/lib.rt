@@ -14,7 +14,7 @@ use fast_decode::FastDecode;
 use fast_encode::FastEncode;
 use stage_ends::{SideBySide, StageEnds};
 
-// A coding with all that its calls need.
+// A coding with all that its calls need. Values, tags and data come apart, since callers lend them so, in C too.
 pub trait Coder: FastEncode + FastDecode + SideBySide {}
 
 impl Coder for Coder1234 {}

@@ -26,7 +26,7 @@ static LENGTH_TABLE: [u32; 256] = [
 
 static TAG_VALUE_MAP: [usize; 5] = [0, 1, 2, 3, 3];
 
-// Each coder has tables of its own, so each gives them out itself.
+// Each coder has tables of its own, so each gives them out itself: an `impl` that a macro writes is refused here.
 impl CodingDescriptor for Coder0124 {
     type Elem = u32;
 

@@ -25,7 +25,7 @@ static LENGTH_TABLE: [u32; 256] = [
     10, 11, 12, 13, 11, 12, 13, 14, 12, 13, 14, 15, 13, 14, 15, 16,
 ];
 
-// Each coder has tables of its own, so each gives them out itself.
+// Each coder has tables of its own, so each gives them out itself: an `impl` that a macro writes is refused here.
 impl CodingDescriptor for Coder1234 {
     type Elem = u32;
 

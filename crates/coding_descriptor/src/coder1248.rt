@@ -26,7 +26,7 @@ static LENGTH_TABLE: [u32; 256] = [
     24, 28, 25, 26, 28, 32,
 ];
 
-// Each coder has tables of its own, so each gives them out itself.
+// Each coder has tables of its own, so each gives them out itself: an `impl` that a macro writes is refused here.
 impl CodingDescriptor for Coder1248 {
     type Elem = u64;
 

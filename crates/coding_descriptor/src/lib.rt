@@ -29,7 +29,8 @@ pub trait CodingDescriptor {
     // The width of each 2-bit tag value.
     ghost table: { List ℕ };
 
-    // Map from the two-bit tag value for a single value to the encoded length.
+    // Map from the two-bit tag value for a single value to the encoded length. The masks stand in a table of their own, as in the Rust: most
+    // callers want the lengths alone.
     fn tag_len() -> &'static [usize; 4]
         ensures { result.now ≡ table };
 

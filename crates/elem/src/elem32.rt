@@ -1,4 +1,4 @@
-// A number of 32 bits as an element. `elem64` says the same of 64: an `impl` that a macro writes is not to be had here.
+// A number of 32 bits as an element. `elem64` says the same of 64: an `impl` that a macro writes is refused here.
 ghost use Rattle.std.specs.Prelude.{◌%◌};
 ghost use Rattle.std.proofs.Common.{rules};
 ghost use Rattle.packed.specs.Format.{m32};

@@ -1,4 +1,5 @@
 // Whole columns, the encoding half of `coder_impl.rs`: of values or of their deltas. The Rust's asserts are the calls' refusals, checked above.
+// HasRoom stands in each contract: a type that said it would hold values, tags and data, and be taken apart by each function here.
 #![tactic(auto)]
 
 ghost use Rattle.std.specs.Prelude.{map, ◌+◌, ◌*◌, ◌/◌, ◌≤◌, length};

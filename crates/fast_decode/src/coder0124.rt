@@ -60,7 +60,7 @@ static SIDES: [u32; 128] = [
     4294967295,
 ];
 
-// Each coder has tables of its own, so each gives them out itself.
+// Each coder has tables of its own, so each gives them out itself: an `impl` that a macro writes is refused here.
 impl FastDecode for Coder0124 {
     fn places() -> &'static [u32; 256] {
         &PLACES

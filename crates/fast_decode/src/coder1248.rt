@@ -73,7 +73,7 @@ static HALVES: [u64; 32] = [
     18446744073709551615,
 ];
 
-// Each coder has tables of its own, so each gives them out itself.
+// Each coder has tables of its own, so each gives them out itself: an `impl` that a macro writes is refused here.
 impl FastDecode for Coder1248 {
     fn places() -> &'static [u32; 256] {
         &PLACES

@@ -1,6 +1,6 @@
 // A group decoded by tables, as the Rust's faster engines have their own `decode8`: one entry of the first tells where its four numbers
 // begin and where it ends, so that no read waits for the lengths before it. The masks come by half tags, from a table in which they lie
-// side by side or from a smaller one in which each is found for itself.
+// side by side or from a smaller one in which each is found for itself. A slice and a place come together, as in `raw_group`.
 #![tactic(auto)]
 
 mod coder0124;
@@ -31,7 +31,7 @@ pub trait FastDecode: CodingDescriptor {
         ensures { map Self.Elem.number result ≡ masks (widths Self.table tag) };
 }
 
-// The four masks of a tag from a table in which a half tag's two lie next to each other.
+// The four masks of a tag from a table in which a half tag's two lie next to each other. Flat, as Halves says where each mask lies.
 fn half_masks_of(tag: u8, halves: &[u32; 32]) -> [u32; 4]
     ensures { result ≡ halves_of 2 1 halves.now tag }
 {

@@ -10,7 +10,7 @@ static BY_ZEROS: [TagValue; 5] = [
     TagValue { tag: 0, len: 0 },
 ];
 
-// Each coder has a table of its own, so each gives it out itself.
+// Each coder has a table of its own, so each gives it out itself: an `impl` that a macro writes is refused here.
 impl FastEncode for Coder0124 {
     fn by_zeros(zeros: usize) -> TagValue {
         BY_ZEROS[zeros]

@@ -38,7 +38,7 @@ pub fn group_len<D: FastEncode>(group: [D::Elem; 4]) -> usize
     data_len::<D>(group_tag::<D>(group))
 }
 
-// What whole words leave behind at most.
+// What whole words leave behind at most. `stage_ends` has four times this as slack; a crate between the two for a line would be no plainer.
 fn to_cover<D: CodingDescriptor>() -> usize
     ensures { result ≡ left_behind D.table }
 {

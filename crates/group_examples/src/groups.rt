@@ -18,6 +18,7 @@ fn based<E: Elem + From<u8>>(base: E) -> [E; 4] {
     [E::from(9), E::from(9), E::from(9), base]
 }
 
+// The buffers are fixed, since nothing here allocates.
 fn encode<D: Shown>(group: [D::Elem; 4]) -> Stored {
     let mut output = [0xAA; 40];
     let came = raw_group::encode::<D>(&mut output, 2, group);
@@ -41,7 +42,7 @@ where
     }
 }
 
-// Reads with other bytes behind the data, which do not count.
+// Reads with other bytes behind the data, which do not count. A tag and its data are lent apart, as the calls take them.
 fn decode<D: Shown>(tag: u8, data: &[u8], behind: u8) -> Got {
     let (read, group) = raw_group::decode::<D>(&laid(data, behind), 2, tag);
     Got {

@@ -75,7 +75,7 @@ impl fmt::Display for Skip {
     }
 }
 
-// A buffer with data at index 2, and other bytes before and behind it.
+// A buffer with data at index 2, and other bytes before and behind it. By `zip`: `copy_from_slice` would ask that the data fit.
 pub fn laid(data: &[u8], other: u8) -> [u8; 40] {
     let mut buf = [other; 40];
     for (slot, byte) in buf[2..].iter_mut().zip(data) {

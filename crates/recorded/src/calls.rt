@@ -6,7 +6,7 @@ use coder::Coder;
 use coding_descriptor::{Coder0124, Coder1234, Coder1248};
 use elem::Elem;
 
-// Encodes, as deltas where there is a start. Lends as much as the crate was lent: the tags, and what the widest groups take. The buffers
+// Encodes, as deltas where there is a start: no second function, since all before and behind the call is the same. Lends as much as the crate was lent: the tags, and what the widest groups take. The buffers
 // are fixed, since nothing here allocates: no record has more than 160 values.
 fn encodes<C: Coder>(start: Option<C::Elem>, record: Record) -> bool
 where
@@ -26,7 +26,7 @@ where
     record.is_stored(came, &tags, data)
 }
 
-// Decodes, from deltas where there is a start. Lends as many values as are recorded.
+// Decodes, from deltas where there is a start. Lends as many values as are recorded, in a fixed buffer too.
 fn decodes<C: Coder>(start: Option<C::Elem>, record: Record) -> bool
 where
     C::Elem: Number,

@@ -1,4 +1,5 @@
-// The kinds of records: the coder and the call, which have numbers in the file from 0 on.
+// The kinds of records: the coder and the call, which have numbers in the file from 0 on, so each enum finds its own by a line. Call is not that
+// of `cases`: the published crate has no tightness check.
 use std::fmt;
 
 #[derive(Clone, Copy, PartialEq, Eq)]

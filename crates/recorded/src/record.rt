@@ -45,7 +45,7 @@ impl<'a> Record<'a> {
         Some((record, rest))
     }
 
-    // The values, and AA bytes behind the last.
+    // The values, and AA bytes behind the last: of fixed size, since nothing here allocates.
     pub fn values<E: Number>(self) -> [E; 160] {
         let mut values = [E::wrapping_from(0xAAAA_AAAA_AAAA_AAAA); 160];
         for (value, bytes) in values.iter_mut().zip(self.values.chunks_exact(E::SIZE)) {

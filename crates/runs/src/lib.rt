@@ -42,7 +42,8 @@ pub trait Sink<D: FastDecode> {
         ensures read { result.0 ≡ total (widths D.table tag) }
         ensures took { Took (numbers (widths D.table tag) (drop at «data».now)) (map D.Elem.number values.old) (4 * i) (D.Elem.number carried) (map D.Elem.number values.new) (D.Elem.number result.1) };
 
-    // The same by tables, for one of eight groups.
+    // The same by tables, for one of eight groups. Two functions, as in the Rust. What they take is one call's: a struct of it would be made for
+    // each group and taken apart at once.
     fn handle8(
         data: &[u8],
         at: usize,

@@ -42,7 +42,7 @@ pub struct StageEnds {
 }
 
 // The number of encoded bytes of the 4 groups whose tags are put together in tag4: a sum in u32, as the entries are, so that each is added
-// straight from the table.
+// straight from the table. By `/` and `%`: `to_le_bytes` would give four bytes to be widened one by one.
 fn data_len4<D: CodingDescriptor>(tag4: u32) -> u32
     ensures { result ≡ lengths4 D.table tag4 }
 {

@@ -1,4 +1,4 @@
-// Tags by fours. The tables of `tag_utils.rs` are constants, in each coder's module of `coding_descriptor`.
+// Tags by fours. The tables of `tag_utils.rs` are statics, in each coder's module of `coding_descriptor`.
 #![tactic(auto)]
 
 ghost use Rattle.std.specs.Prelude.{◌≡◌, ◌+◌, ◌≤◌, length, take, drop};
