@@ -10,7 +10,8 @@ mod file;
 mod number;
 mod text;
 
-use case::{Call, Case, Part};
+pub use answer::{is_counted, is_decoded, is_encoded, is_skipped, is_tested};
+pub use case::{Call, Case, Part};
 use coder::Coder;
 pub use file::read;
 pub use number::Number;

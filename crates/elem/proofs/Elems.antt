@@ -1,14 +1,13 @@
 -- Lists of elements seen as lists of numbers: f is the number that an element is. Assumes nothing.
-use mathlib.Core.Path.{◌≡◌, refl, ap, ap₂, sym, ◌∙◌, subst}
+use mathlib.Core.Path.{◌≡◌, ap, sym, ◌∙◌, subst}
 use mathlib.Core.List.{List, [], ◌∷◌, map}
 use Prim.Native.Nat.{ℕ, zero, suc, ◌%◌, ◌^◌, ◌<◌}
-use native.Mathlib.Nat.{mod-eq_of_lt}
 use lib.Dec.{T}
 use lib.ListN.{length, get_or}
 use Rattle.std.proofs.lemmas.List.{get_or-map}
 use mir.Syntax.{Width}
 use mir.Val.{Fits, bits}
-use Rattle.packed.proofs.Bytes.{Below, below_fits, byte_power_pos}
+use Rattle.packed.proofs.Bytes.{Below, below_fits, below_same, byte_power_pos}
 use Rattle.packed.proofs.Loops.{all_le}
 use Rattle.packed.proofs.Ends.{Table}
 use Rattle.packed.proofs.Widths.{top}
@@ -39,10 +38,13 @@ widths_fit t w is e = subst (λ (n : ℕ). T (all_le n t)) e is.last
 pub top_is : (t : List ℕ) (m w : ℕ) → get_or t 3 0 ≡ w → m ≡ 256 ^ w → m ≡ top t
 top_is t m w e em = em ∙ ap (λ (n : ℕ). 256 ^ n) (sym e)
 
+-- so each number is below the end of the table's
+pub below_top : {E : Type 0} (f : E → ℕ) (t : List ℕ) (m w : ℕ) → get_or t 3 0 ≡ w → m ≡ 256 ^ w → ((x : E) → f x < m) → (xs : List E) → Below (top t) (map f xs)
+below_top f t m w e em h xs = subst (λ (n : ℕ). Below n (map f xs)) (top_is t m w e em) (below_map f m (modulus_pos m w em) h xs)
+
 -- numbers below m are what they are modulo m
 pub unmapped : (m : ℕ) (xs : List ℕ) → Below m xs → map (λ x. x % m) xs ≡ xs
-unmapped m [] h = refl
-unmapped m (x ∷ xs) h = ap₂ (λ (y : ℕ) (ys : List ℕ). y ∷ ys) (mod-eq_of_lt (h 0)) (unmapped m xs (λ i. h (suc i)))
+unmapped m xs h = below_same m xs h
 
 -- numbers that fit so many bits are what they are modulo the power of two
 pub fits_same : (w : Width) (xs : List ℕ) → ((i : ℕ) → Fits w (get_or xs i 0)) → map (λ x. x % 2 ^ bits w) xs ≡ xs

@@ -10,22 +10,34 @@ ghost use Rattle.wide_stores.specs.Wide.{HasRoom};
 
 use elem::Elem;
 use fast_encode::{EncodeSink, FastEncode, StandardEncodeSink};
-use front_end::{front_end, group_len, group_tag};
+use front_end::{front_end, group_len, group_tag, is_zero};
 use raw_group::Encoded;
 
-// One group stored byte by byte, with no byte that is not its own. A group of no bytes is passed quickly: of the groups so stored all but a few
-// may have none, and they may be many.
+// One group stored byte by byte, with no byte that is not its own. Kept apart: put into its caller, it would have registers saved for each group of
+// zeros there.
+#[inline(never)]
+fn encode_bytes<D: FastEncode>(output: &mut [u8], at: usize, group: [D::Elem; 4]) -> Encoded
+    requires { at + 4 * D.Elem.SIZE ≤ length output.old }
+    ensures { Encodes D.table (map D.Elem.number group) output.old at result.tag result.written output.new }
+{
+    raw_group::encode::<D>(output, at, group)
+}
+
+// The same. Where a group may have no bytes it is passed quickly then: of the groups so stored all but a few may have none, and they may be many.
 fn encode<D: FastEncode>(output: &mut [u8], at: usize, group: [D::Elem; 4]) -> Encoded
     requires { at + 4 * D.Elem.SIZE ≤ length output.old }
     ensures { Encodes D.table (map D.Elem.number group) output.old at result.tag result.written output.new }
 {
-    if group_len::<D>(group) == 0 {
+    if D::tag_len()[0] != 0 {
+        return raw_group::encode::<D>(output, at, group);
+    }
+    if is_zero(group) && group_len::<D>(group) == 0 {
         return Encoded {
             tag: group_tag::<D>(group),
             written: 0,
         };
     }
-    raw_group::encode::<D>(output, at, group)
+    encode_bytes::<D>(output, at, group)
 }
 
 // Groups so stored.

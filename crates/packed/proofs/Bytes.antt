@@ -1,15 +1,15 @@
 -- Laws of numbers as bytes, low byte first. Assumes nothing.
 use mathlib.Core.Path.{◌≡◌, refl, ap, ap₂, sym, ◌∙◌}
-use mathlib.Core.List.{List, [], ◌∷◌}
+use mathlib.Core.List.{List, [], ◌∷◌, map}
 use Prim.Native.Nat.{ℕ, zero, suc, ◌+◌, ◌-◌, ◌*◌, ◌/◌, ◌%◌, ◌^◌, ◌≤◌, ◌<◌}
 use native.Mathlib.Nat.{zero-add, add_assoc, add_comm, mul_comm, mul-suc, pow-suc, mod-lt, mod-eq_of_lt, mod-one, not-suc-le-zero, le_of_suc-le-suc, le_refl}
-use native.Mathlib.Nat.{add-mul-div_left, add-mul-mod_self_left, div-eq_of_lt}
+use native.Mathlib.Nat.{one-mul, mul-lt-mul_of_pos_right, add-mul-div_left, add-mul-mod_self_left, div-eq_of_lt}
 use native.Mathlib.Numerals.{add-one}
 use lib.Arith.{mod-mul}
 use lib.Bits.{bit_and, and_mask}
 use lib.Dec.{lit<}
 use lib.ListN.{length, take, drop, get_or}
-use lib.Pow.{pow-add, pow_pos}
+use lib.Pow.{pow-add, pow_pos, pow-lt}
 use mir.Syntax.{Width}
 use mir.Val.{Fits, bits}
 use lib.Seq.{drop-cons, get_or-drop}
@@ -25,6 +25,11 @@ below_fits w s h i = (h i).fits
 
 pub below-drop : (m n : ℕ) (s : List ℕ) → Below m s → Below m (drop n s)
 below-drop m n s h i = rw (get_or-drop n s i 0) (h (n + i))
+
+-- numbers below m are what they are modulo m
+pub below_same : (m : ℕ) (s : List ℕ) → Below m s → map (λ x. x % m) s ≡ s
+below_same m [] h = refl
+below_same m (x ∷ s) h = ap₂ (λ (y : ℕ) (ys : List ℕ). y ∷ ys) (mod-eq_of_lt (h 0)) (below_same m s (λ i. h (suc i)))
 
 pub byte_powers : (w : ℕ) → 256 ^ w ≡ 2 ^ (8 * w)
 byte_powers zero = refl
@@ -76,6 +81,12 @@ pub masked : (w n x mask : ℕ) (s : List ℕ) → Below 256 s → w ≤ n → x
 masked w n x mask s h le ex em =
     ap₂ bit_and ex (em ∙ ap (λ (q : ℕ). q - 1) (byte_powers w)) ∙ and_mask (le_value (take n s)) (8 * w)
     ∙ ap (λ (q : ℕ). le_value (take n s) % q) (sym (byte_powers w)) ∙ sym (le_value_fewer w n s h le)
+
+-- one shifted by a width's bits, in a wider number of n bytes
+pub shifted_one : (w n : ℕ) → w < n → (1 * 2 ^ (w * 8)) % 2 ^ (n * 8) ≡ 256 ^ w
+shifted_one w n h =
+    let e : 1 * 2 ^ (w * 8) ≡ 256 ^ w = one-mul (2 ^ (w * 8)) ∙ ap (λ (k : ℕ). 2 ^ k) (mul_comm w 8) ∙ sym (byte_powers w) in
+    mod-eq_of_lt (rw (one-mul (2 ^ (w * 8))) (pow-lt (mul-lt-mul_of_pos_right h (lit< tt)))) ∙ e
 
 -- the first byte, and what follows it; the same k bytes further on
 pub le_value_head : (n at : ℕ) (s : List ℕ) → at < length s

@@ -1,6 +1,6 @@
 -- Lists of four. Assumes nothing.
 use mathlib.Core.Path.{◌≡◌, refl, ap, sym}
-use mathlib.Core.List.{List, [], ◌∷◌}
+use mathlib.Core.List.{List, [], ◌∷◌, map}
 use Prim.Native.Nat.{ℕ, ◌+◌}
 use native.Mathlib.Omega.{arith}
 use native.Mathlib.Numerals.{add-one, add-two, add-three}
@@ -19,6 +19,13 @@ four_is (a ∷ b ∷ []) h = absurd (omega arith)
 four_is (a ∷ b ∷ c ∷ []) h = absurd (omega arith)
 four_is (a ∷ b ∷ c ∷ d ∷ []) h = refl
 four_is (a ∷ b ∷ c ∷ d ∷ e ∷ l) h = absurd (omega arith)
+
+-- one function of each element
+pub four_map : (f : ℕ → ℕ) (l : List ℕ) (a b c d : ℕ) → length l ≡ 4 → a ≡ f (get_or l 0 0) → b ≡ f (get_or l 1 0) → c ≡ f (get_or l 2 0) → d ≡ f (get_or l 3 0)
+    → a ∷ b ∷ c ∷ d ∷ [] ≡ map f l
+four_map f l a b c d h ea eb ec ed =
+    let e : map f (four_of l) ≡ map f l = ap (map f) (sym (four_is l h)) in
+    rw (ea, eb, ec, ed) e
 
 -- four stores one behind the other
 pub four_stores : (l g : List ℕ) (at : ℕ) → length g ≡ 4

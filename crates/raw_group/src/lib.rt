@@ -19,12 +19,14 @@ pub struct Encoded {
 
 // Stores the len low bytes of a value, low byte first, and no other byte.
 pub fn store<E: Elem>(output: &mut [u8], at: usize, len: usize, value: E)
-    requires room { at + len ≤ length output.old }
-    requires few { len ≤ E.SIZE }
+    requires { at + len ≤ length output.old }
     ensures { output.new ≡ sets output.old at (le_bytes len (E.number value)) }
 {
-    for (i, byte) in output[at..at + len].iter_mut().enumerate() {
-        *byte = value.byte(i);
+    // Byte by byte down a u64: shifting value anew for each byte takes five instructions in place of one.
+    let mut rest = value.as_u64();
+    for byte in &mut output[at..at + len] {
+        *byte = rest.byte(0);
+        rest /= 256;
     }
 }
 

@@ -31,8 +31,9 @@ module _ (t : List ℕ) (f : ℕ → ℕ) (c : ℕ) (test : T (every 256 (right 
   len tag h =
       eqb→eq (halves_of (f tag) + c) (total (widths t tag)) (both_right (ltb (f tag) 256) (eqb (halves_of (f tag) + c) (total (widths t tag))) (at 256 (right t f c) test tag h))
 
-  pub four_within : (x y r : ℕ) → x < 4294967296 → Bytewise f x y → SumsHalves y r → r + 4 * c ≡ lengths4 t x
-  four_within x y r fits p q =
+  -- of the four that stand in a number
+  pub four_lengths : (x y r : ℕ) → x < 4294967296 → Bytewise f x y → SumsHalves y r → r + 4 * c ≡ lengths4 t x
+  four_lengths x y r fits p q =
       let j : ℕ = x % 256 in
       let k : ℕ = x / 256 % 256 in
       let l : ℕ = x / 65536 % 256 in
@@ -43,6 +44,18 @@ module _ (t : List ℕ) (f : ℕ → ℕ) (c : ℕ) (test : T (every 256 (right 
       let hm : m < 256 = omega arith in
       let side : y ≡ word (f j) (f k) (f l) (f m) = p j k l m hj hk hl hm (omega arith) in
       omega (arith, q (f j) (f k) (f l) (f m) (small j hj) (small k hk) (small l hl) (small m hm) side, len j hj, len k hk, len l hl, len m hm)
+
+put : (tags : List ℕ) (i x : ℕ) → i + 4 ≤ length tags → x ≡ le_value (take 4 (drop i tags))
+    → x ≡ word (get_or tags i 0) (get_or tags (i + 1) 0) (get_or tags (i + 2) 0) (get_or tags (i + 3) 0)
+put tags i x h e =
+    omega (
+      arith,
+      e,
+      le_value_head 3 i tags (omega arith),
+      le_value_next 2 i 1 tags (omega arith),
+      le_value_next 1 i 2 tags (omega arith),
+      le_value_next 0 i 3 tags (omega arith),
+    )
 
 module _ (t : List ℕ) (is : Table t) where
   same : (a b : ℕ) → a ≡ b → total (widths t a) ≡ total (widths t b)
@@ -59,15 +72,7 @@ module _ (t : List ℕ) (is : Table t) where
       let hj = below i in
       let hk = below (i + 1) in
       let hl = below (i + 2) in
-      let put : x ≡ word j k l m =
-      omega (
-        arith,
-        e,
-        le_value_head 3 i tags (omega arith),
-        le_value_next 2 i 1 tags (omega arith),
-        le_value_next 1 i 2 tags (omega arith),
-        le_value_next 0 i 3 tags (omega arith),
-      ) in
+      let whole : x ≡ word j k l m = put tags i x h e in
       subst (Measured t tags i (i + 4)) (sym er)
       (measured_step t is i 3 _
       (measured_step t is i 2 _
@@ -76,6 +81,14 @@ module _ (t : List ℕ) (is : Table t) where
       (omega arith) (same (x / 256 % 256) k (omega arith)))
       (omega arith) (same (x / 65536 % 256) l (omega arith)))
       (omega arith) (same (x / 16777216) m (omega arith)))
+
+-- so of four tags that are put together f has their length
+module _ (t : List ℕ) (is : Table t) (f : ℕ → ℕ) (c : ℕ) (test : T (every 256 (right t f c))) where
+  pub four_within : (tags : List ℕ) (i x y r : ℕ) → Below 256 tags → i + 4 ≤ length tags → x ≡ le_value (take 4 (drop i tags)) → Bytewise f x y
+      → SumsHalves y r → Measured t tags i (i + 4) (r + 4 * c)
+  four_within tags i x y r below h e p q =
+      let fits : x < 4294967296 = omega (arith, put tags i x h e, below i, below (i + 1), below (i + 2), below (i + 3)) in
+      four_measured t is tags i x (r + 4 * c) below h e (four_lengths t f c test x y r fits p q)
 
 -- A run of so many fours from a tag on: k of them are measured.
 module _ (t : List ℕ) (is : Table t) where

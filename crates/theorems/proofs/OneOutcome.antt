@@ -2,13 +2,14 @@
 -- lent. Each promise is one equation with a definition of the inputs, so it is enough that the reading of an answer loses nothing.
 -- Assumes nothing.
 use mathlib.Core.Path.{◌≡◌, refl, ap, ap₂, sym, ◌∙◌}
-use mathlib.Core.List.{List}
+use mathlib.Core.List.{List, map}
 use Prim.Native.Nat.{ℕ, zero, suc, ◌%◌, ◌<◌}
 use native.Mathlib.Nat.{mod-eq_of_lt}
 use native.Mathlib.Omega.{arith}
 use Rattle.std.specs.Prelude.{Option, Some, None, Result, Ok, Err}
 use Rattle.packed.specs.Calls
 use Rattle.packed.specs.Calls.{Answer, Encoded, Decoded, encoded, encoding, decoded, decoding_by, skipping, measuring, testing}
+use Rattle.packed.proofs.Bytes.{Below, below_same}
 use Rattle.answers.specs.declared.Refusal.{Refusal}
 use Rattle.answers.specs.declared.Refusal.TheVariants.{NotFours, TooManyGroups, FewTags, LittleRoom, OtherTags, MissingData, TailOverrun}
 use Rattle.answers.specs.declared.Skipped.{Skipped}
@@ -81,6 +82,14 @@ pub one_decoding : (make : List ℕ → List ℕ) (t tags bytes values : List �
 one_decoding make t tags bytes values r r' values₁ values₂ e e' =
     let same : decoded (counted r) values₁ ≡ decoded (counted r') values₂ = e ∙ sym e' in
     (same_counted r r' (ap (λ (o : Decoded). o.answer) same), ap (λ (o : Decoded). o.values) same)
+
+-- The same of values below a modulus k that are numbers modulo k, as those of u32 and u64 are.
+pub one_decoding_below : (k : ℕ) (make : List ℕ → List ℕ) (t tags bytes values : List ℕ) (r r' : Result ℕ Refusal) (values₁ values₂ : List ℕ)
+    → Below k values₁ → Below k values₂ → decoded (counted r) (map (λ x. x % k) values₁) ≡ decoding_by make t tags bytes values
+    → decoded (counted r') (map (λ x. x % k) values₂) ≡ decoding_by make t tags bytes values → (r ≡ r') × (values₁ ≡ values₂)
+one_decoding_below k make t tags bytes values r r' values₁ values₂ below below' e e' =
+    let one = one_decoding make t tags bytes values r r' (map (λ x. x % k) values₁) (map (λ x. x % k) values₂) e e' in
+    (one.0, sym (below_same k values₁ below) ∙ one.1 ∙ below_same k values₂ below')
 
 -- `data_len`
 pub one_measuring : (t tags : List ℕ) (r r' : Result ℕ Refusal) → counted r ≡ measuring t tags → counted r' ≡ measuring t tags → r ≡ r'

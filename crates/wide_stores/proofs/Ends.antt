@@ -2,22 +2,22 @@
 -- nothing.
 use mathlib.Core.Path.{◌≡◌, refl, ap, sym, ◌∙◌, subst}
 use mathlib.Core.Bool.{Bool}
-use mathlib.Core.List.{List, [], ◌∷◌, ◌++◌}
-use Prim.Native.Nat.{ℕ, zero, suc, ◌+◌, ◌-◌, ◌*◌, ◌^◌, ◌≤◌, ◌<◌}
+use mathlib.Core.List.{List, [], ◌∷◌, ◌++◌, map}
+use Prim.Native.Nat.{ℕ, zero, suc, ◌+◌, ◌-◌, ◌*◌, ◌^◌, ◌≤◌, ◌<◌, zero-le}
 use native.Mathlib.Omega.{arith}
 use lib.ListN.{length, take, drop, get_or, length-append}
 use lib.Seq.{sets, drop-drop}
 use borrow.Author.Tests.{lt-ltb}
-use Rattle.packed.specs.Format.{pick, total, widths, shortest, tag_of, bytes_of, steps}
+use Rattle.packed.specs.Format.{pick, total, widths, shortest, short_width, tag_of, bytes_of, steps}
 use Rattle.packed.specs.Group.{Encodes}
 use Rattle.packed.specs.Stages.{widest_group}
 use Rattle.packed.specs.Column.{RunsEncode}
 use Rattle.packed.proofs.Bytes.{Below, byte_power_pos}
 use Rattle.packed.proofs.Deltas.{last_of}
 use Rattle.packed.proofs.Encodes.{steps-drop}
-use Rattle.packed.proofs.Ends.{Table}
+use Rattle.packed.proofs.Ends.{Table, at_least}
 use Rattle.packed.proofs.Fours.{four_of, four_is}
-use Rattle.packed.proofs.Widths.{top, widths_of_tag, bytes_length}
+use Rattle.packed.proofs.Widths.{top, widths_of_tag, short_width_is, short_width_holds, shortest-field, bytes_length}
 use Rattle.wide_stores.specs.Wide.{excess, RunsWide, Covers}
 use Rattle.wide_stores.proofs.Columns.{excess_covered, bytes_join, behind, back_behind, wide_then_rest}
 
@@ -29,6 +29,34 @@ tag_total t group is four h =
     let all : total (widths t (tag_of t (four_of group))) ≡ length (bytes_of t (four_of group)) =
     ap total (widths_of_tag t is (get_or group 0 0) (get_or group 1 0) (get_or group 2 0) (get_or group 3 0) below) ∙ sym (bytes_length t is (four_of group)) in
     subst (λ (l : List ℕ). total (widths t (tag_of t l)) ≡ length (bytes_of t l)) (sym same) all
+
+-- no number is narrower than the narrowest width
+pub width_least : (t : List ℕ) → Table t → (v : ℕ) → v < top t → get_or t 0 0 ≤ short_width t v
+width_least t is v h =
+    let least : get_or t 0 0 ≤ get_or t (shortest t v) 0 = at_least (get_or t 0 0) t is.first (shortest t v) (omega (arith, shortest-field t is.four v h, is.four)) in
+    omega (arith, short_width_is t v)
+
+-- a number that is not 0 has a byte or more
+pub some_width : (t : List ℕ) → length t ≡ 4 → (v : ℕ) → v < top t → 0 < v → 1 ≤ short_width t v
+some_width t four v h pos = go (short_width t v) (short_width_holds t four v h)
+  where
+    go : (w : ℕ) → v < 256 ^ w → 1 ≤ w
+    go zero hw = absurd (omega arith)
+    go (suc w) hw = omega arith
+
+-- so it has as many as the number is, and no more than one
+pub some_least : (t : List ℕ) → length t ≡ 4 → (v len : ℕ) → v < top t → len ≤ v → len ≤ 1 → len ≤ short_width t v
+some_least t four v zero h hv one = zero-le
+some_least t four v (suc len) h hv one = omega (arith, some_width t four v h (omega arith))
+
+-- the bytes of four numbers, of each of which so many are there
+pub four_least : (t group : List ℕ) (l₀ l₁ l₂ l₃ : ℕ) → length t ≡ 4 → length group ≡ 4
+    → l₀ ≤ short_width t (get_or group 0 0) → l₁ ≤ short_width t (get_or group 1 0) → l₂ ≤ short_width t (get_or group 2 0) → l₃ ≤ short_width t (get_or group 3 0)
+    → l₀ + l₁ + l₂ + l₃ ≤ length (bytes_of t group)
+four_least t group l₀ l₁ l₂ l₃ is four h₀ h₁ h₂ h₃ =
+    let all : length (bytes_of t (four_of group)) ≡ total (map (short_width t) (four_of group)) = bytes_length t is (four_of group) in
+    let same : length (bytes_of t (four_of group)) ≡ length (bytes_of t group) = ap (λ (l : List ℕ). length (bytes_of t l)) (sym (four_is group four)) in
+    omega arith
 
 -- zeros have the first field
 zero_first : (t : List ℕ) → shortest t 0 ≡ 0
@@ -53,7 +81,7 @@ module _ (t ds : List ℕ) (n groups : ℕ) where
     pub there : n ≤ uncovered + length (bytes_of t (take (4 * (groups - front)) (drop (4 * front) ds)))
 
   pub covering_next : {front uncovered : ℕ} (back len left : ℕ) (group : List ℕ) → Covering front uncovered → front ≡ back + 1
-      → group ≡ take 4 (drop (4 * back) ds) → len ≡ length (bytes_of t group) → left ≡ uncovered - len → Covering back left
+      → group ≡ take 4 (drop (4 * back) ds) → len ≤ length (bytes_of t group) → left ≡ uncovered - len → Covering back left
   covering_next {front} {uncovered} back len left group s e eg el ev =
       let l : List ℕ = drop (4 * back) ds in
       let more : groups - back ≡ 1 + (groups - front) = omega (arith, s.inside) in

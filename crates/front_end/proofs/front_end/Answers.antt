@@ -15,7 +15,7 @@ returns-then-uncovered-eq0 g c =
     let own = group_at f vs (length vs / 4) back group.result c.as_chunks.result.0.now c.as_chunks.ensures.front (omega (arith, c.as_chunks.ensures.front_len)) group.is in
     let next = covering_next _ _ _ _ back _ _ (map f stored.result) c.loop-front.invariant (omega arith)
     (sink_group (g.S.EncodeSink.stored c.from-sink.result) (g.S.EncodeSink.stored stored.new.self) (map f vs) (g.S.EncodeSink.stored c.args.start (map f vs)) (map f group.result) (map f stored.result) (4 * back)
-    c.from-sink.ensures own stored.ensures (rw length-map (search rules))) c.group_len.ensures c.saturating_sub-uncovered.ensures in
+    c.from-sink.ensures own stored.ensures (rw length-map (search rules))) c.least_group_len.ensures c.saturating_sub-uncovered.ensures in
     covering_found _ _ _ _ next c.if-uncovered-eq0.true
 
 pub loop-front-preserved : goal.loop-front-preserved
@@ -28,5 +28,5 @@ loop-front-preserved g c =
     let own = group_at f vs (length vs / 4) back group.result c.as_chunks.result.0.now c.as_chunks.ensures.front (omega (arith, c.as_chunks.ensures.front_len)) group.is in
     let next = covering_next _ _ _ _ back _ _ (map f stored.result) c.loop-front.invariant (omega arith)
     (sink_group (g.S.EncodeSink.stored c.from-sink.result) (g.S.EncodeSink.stored stored.new.self) (map f vs) (g.S.EncodeSink.stored c.args.start (map f vs)) (map f group.result) (map f stored.result) (4 * back)
-    c.from-sink.ensures own stored.ensures (rw length-map (search rules))) c.group_len.ensures c.saturating_sub-uncovered.ensures in
+    c.from-sink.ensures own stored.ensures (rw length-map (search rules))) c.least_group_len.ensures c.saturating_sub-uncovered.ensures in
     next

@@ -1,6 +1,5 @@
-use Rattle.std.proofs.Common.{◌/◌, ◌^◌}
 use Rattle.packed.proofs.Loops.{Storing}
 use Rattle.raw_group.proofs.store.Given as goal
 
-abbrev pub invariant-loop-i : goal.invariant-loop-i
-invariant-loop-i g l = let n = g.E.Elem.number l.value in Storing l.len n l.i (n / 256 ^ l.i) l.byte-items
+abbrev pub invariant-loop-byte : goal.invariant-loop-byte
+invariant-loop-byte g l = Storing l.len (g.E.Elem.number l.fn.value) l.byte-index l.rest l.byte-items

@@ -3,7 +3,7 @@ use Rattle.std.proofs.Common.{ℕ, ◌+◌, ◌*◌, ◌<◌, arith, rules}
 use Rattle.packed.specs.Format.{t1248, field, widths}
 use Rattle.tag_words.specs.Words.{pairs_of}
 use Rattle.tag_words.proofs.Words.{upper_pairs, full_pairs, added, tripled, upper_pairs_lem, full_pairs_lem, pairs_most, upper_most, full_most, most}
-use Rattle.tag_words.proofs.Lengths.{right, four_within}
+use Rattle.tag_words.proofs.Lengths.{right, four_lengths}
 use Rattle.stage_ends.proofs.coder1248.Coder1248SideBySide.data_len4_side_by_side.Goals as goal
 
 pub overflow_add-pairs : goal.overflow_add-pairs
@@ -40,4 +40,4 @@ returns c =
     let up = c.uppers-upper.ensures in
     let two = added pairs_of upper_pairs x _ _ c.pairs.ensures (upper_pairs_lem x _ _ up c.pairs-2.ensures) in
     let side = added (λ tag. pairs_of tag + upper_pairs tag) (λ tag. 3 * full_pairs tag) x _ _ two (tripled full_pairs x _ (full_pairs_lem x _ _ up c.pairs-3.ensures)) in
-    four_within t1248 (λ tag. pairs_of tag + upper_pairs tag + 3 * full_pairs tag) 4 tt x _ _ (search rules) side c.sum_of_halves.ensures.0
+    four_lengths t1248 (λ tag. pairs_of tag + upper_pairs tag + 3 * full_pairs tag) 4 tt x _ _ (search rules) side c.sum_of_halves.ensures.0
