@@ -34,9 +34,12 @@ pub fn first_loose<D: CodingDescriptor>(tags: &[u8], data: &[u8]) -> Option<Plac
         // position is a part of the answer and indexes nothing: an array of the tag's four lengths would be made for this loop alone
         for position in 0..4 {
             let len = D::tag_len()[(rest % 4) as usize];
-            let value = stored_number(&data[at..at + len]);
-            if len != D::tag_value(value).len {
-                return Some(Place { group, position });
+            // A number of the narrowest width is never loose, so it need not be read.
+            if rest % 4 != 0 {
+                let value = stored_number(&data[at..at + len]);
+                if len != D::tag_value(value).len {
+                    return Some(Place { group, position });
+                }
             }
             at += len;
             rest = rest / 4;

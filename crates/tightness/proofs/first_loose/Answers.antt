@@ -1,8 +1,10 @@
 -- `first_loose` meets its contract: by the laws of its two loops.
-use Rattle.std.proofs.Common.{◌%◌, get_or, sym, rules}
+use Rattle.std.proofs.Common.{◌%◌, get_or, refl, sym, rules}
 use Rattle.elem.proofs.Elems.{widths_fit}
 use Rattle.packed.proofs.Loops.{lent-width}
 use Rattle.packed.proofs.Tight.{part_is, part-fits, at_group_start, at_group_done, at_number_start, at_number_there, at_number_next, at_number_loose, at_number_done}
+use Rattle.tightness.proofs.Narrowest.{narrowest}
+use Rattle.tightness.proofs.first_loose.Goals.{then-rest-ne0+else-len-tag_value, else-rest-ne0}
 use Rattle.tightness.proofs.first_loose.Goals as goal
 
 pub loop-group-init : goal.loop-group-init
@@ -29,12 +31,20 @@ stored_number-value-requires-after_bounds g c κs within =
 
 pub loop-position-preserved : goal.loop-position-preserved
 loop-position-preserved g c =
-    let e = g.D.Elem.Elem in
-    let v = c.stored_number-value in
-    let f = c.tag_value in
-    let read = part_is c.args.«data».now c.loop-position.at (get_or c.tag_len.result.now (c.loop-position.rest % 4) 0) v.ensures in
-    at_number_next g.D.CodingDescriptor.table _ e.SIZE (e.number v.result) f.result.tag f.result.len c.loop-position.invariant c.loop-position-test.true
-    c.tag_len.ensures read f.ensures c.if-len-tag_value.false
+    elim c.if-rest-ne0.branch [
+      | then-rest-ne0+else-len-tag_value w ↦
+          let e = g.D.Elem.Elem in
+          let v = w.stored_number-value in
+          let f = w.tag_value in
+          let read = part_is c.args.«data».now c.loop-position.at (get_or c.tag_len.result.now (c.loop-position.rest % 4) 0) v.ensures in
+          at_number_next g.D.CodingDescriptor.table _ e.SIZE (e.number v.result) f.result.tag f.result.len c.loop-position.invariant c.loop-position-test.true
+          c.tag_len.ensures read f.ensures w.if-len-tag_value.false
+      | else-rest-ne0 w ↦
+          let t = g.D.CodingDescriptor.table in
+          let narrow = narrowest t c.tag_len.result.now c.args.«data».now _ c.loop-position.at (search rules) c.tag_len.ensures w.if-rest-ne0.false
+          (λ i. (c.type_inv.«data» i).fits) in
+          at_number_next t _ _ _ _ _ c.loop-position.invariant c.loop-position-test.true c.tag_len.ensures refl narrow refl
+    ]
 
 pub loop-group-preserved : goal.loop-group-preserved
 loop-group-preserved g c = at_number_done g.D.CodingDescriptor.table c.loop-position.invariant c.loop-position-test.false
