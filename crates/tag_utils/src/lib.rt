@@ -1,5 +1,5 @@
 // The mask tables of `tag_utils.rs`, and tags by fours. The tables of the three coders are statics, in each one's module of
-// `coding_descriptor`: a constant's value calls a few built-in functions and no others.
+// `coding_descriptor`: a constant's value may call a few built-in functions and no others.
 #![tactic(auto)]
 
 ghost use Rattle.std.specs.Prelude.{◌≡◌, ℕ, ◌+◌, ◌^◌, ◌-◌, ◌≤◌, length, take, drop, get_or};
